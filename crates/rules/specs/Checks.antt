@@ -1,0 +1,68 @@
+-- "The check gives cost, operators and steps", a line at a time; "The step list".
+use Prim.Native.Nat.{ℕ, zero, suc, _+_, _/_, _%_}
+use mathlib.Core.Bool.{cond}
+use mathlib.Core.List.{List, [], _∷_}
+use lib.ListN.{length}
+use Rattle.rules.specs.Answers.{Answer, answer, refusal, check}
+use Rattle.rules.specs.Tables.{Table, goalFacts}
+use Rattle.rules.specs.Facts.{holds}
+use Rattle.rules.specs.Progression.{State, Step, act, mth, isEmpty, afterAll, begin, totalCost}
+use Rattle.rules.specs.Operators.{Operator, expand, emitted, applies}
+use Rattle.rules.specs.Plans.{Line, note, oper, other}
+
+-- What an accepted plan comes to.
+pub record Tally : Type 0 where
+  pub cost : ℕ
+  pub operators : ℕ
+  pub steps : ℕ
+
+abbrev pub accepted : ℕ → ℕ → ℕ → Answer Tally
+accepted cost operators steps = answer (record { cost = cost; operators = operators; steps = steps })
+
+-- Where a check stands: the lines passed ("Lines count from 1, comments too"), the state, and the tally so far.
+pub record Place : Type 0 where
+  pub lines : ℕ
+  pub state : State
+  pub cost : ℕ
+  pub operators : ℕ
+  pub steps : ℕ
+
+abbrev pub skip : Place → Place
+skip p = record { lines = suc (p .lines); state = p .state; cost = p .cost; operators = p .operators; steps = p .steps }
+
+abbrev pub apply : ℕ → Table → Place → Operator → Place
+apply f t p o =
+    record {
+      lines = suc (p .lines);
+      state = afterAll t (p .state) (expand f t o);
+      cost = p .cost + totalCost t (expand f t o);
+      operators = suc (p .operators);
+      steps = p .steps + length (expand f t o);
+    }
+
+-- Refusals 14, "stack not empty at the end", and 15, "goal fact missing at the end", at "lines in all".
+abbrev pub finish : Table → Place → Answer Tally
+finish t p =
+    check (isEmpty (p .state .stack)) 14 (p .lines)
+    (check (holds (goalFacts t) (p .state .facts)) 15 (p .lines) (accepted (p .cost) (p .operators) (p .steps)))
+
+-- "11 to 13 by the first line at fault": shape, "operator not emitted", "operator not applicable", at the "line".
+abbrev pub checkFrom : ℕ → Table → ℕ → Place → List Line → Answer Tally
+checkFrom f t b p [] = finish t p
+checkFrom f t b p (note ∷ ls) = checkFrom f t b (skip p) ls
+checkFrom f t b p (other ∷ ls) = refusal 11 (suc (p .lines))
+checkFrom f t b p (oper o ∷ ls) =
+    check (emitted f t b o) 12 (suc (p .lines))
+    (check (applies f t (p .state) o) 13 (suc (p .lines)) (checkFrom f t b (apply f t p o) ls))
+
+unfoldable pub checkLines : ℕ → Table → ℕ → List Line → Answer Tally
+checkLines f t b ls = checkFrom f t b (record { lines = 0; state = begin t; cost = 0; operators = 0; steps = 0 }) ls
+
+-- "16-bit words, each written as two bytes, low first: action k as k, method k as 1,024 + k".
+abbrev pub wordOf : Step → ℕ
+wordOf (act k) = k
+wordOf (mth k) = 1024 + k
+
+unfoldable pub stepBytes : List Step → List ℕ
+stepBytes [] = []
+stepBytes (x ∷ xs) = (wordOf x % 256) ∷ (wordOf x / 256) ∷ stepBytes xs

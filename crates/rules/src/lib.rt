@@ -1,0 +1,7 @@
+// The types that contracts share. The definitions are in specs/; there is no function here.
+
+// What an entry with one number to give answers: that number, or a refusal's number and place.
+pub enum Reply {
+    Value(u64),
+    Refused(u64, u64),
+}
