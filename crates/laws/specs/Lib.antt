@@ -1,0 +1,2 @@
+-- The facts that the laws state, by name.
+pub mod Valid
