@@ -1,0 +1,1 @@
+// A table in memory, number by number. Callers know where nothing stands.
