@@ -5,6 +5,7 @@ use lib.ListN.{length, getD}
 use Rattle.rules.specs.Lists.{rows}
 use Rattle.rules.specs.Tables.{Header, Action, Method, Table}
 use Rattle.laws.specs.Valid.{Valid}
+use Rattle.words.specs.declared.Action.{Action as ActionInCode}
 
 abbrev pub headerOf : List ℕ → Header
 headerOf w =
@@ -24,6 +25,10 @@ actionAt w b = record { needs = getD w b 0; adds = getD w (b + 1) 0; dels = getD
 
 abbrev pub actionOf : List ℕ → ℕ → Action
 actionOf w k = actionAt w (7 + 4 * k)
+
+-- What the code's action says.
+abbrev pub actionRead : ActionInCode → Action
+actionRead a = record { needs = a .needs; adds = a .adds; dels = a .dels; cost = a .cost }
 
 -- The word j places after b.
 abbrev pub cellOf : ℕ → List ℕ → ℕ → ℕ
