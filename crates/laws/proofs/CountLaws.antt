@@ -87,6 +87,9 @@ operators-length f t b =
     ∙ mul-comm b (actionCount t))
     (kind-length f t b mth (methodCount t))
 
+pub operators-few : (f : ℕ) (t : Table) (b : ℕ) → Valid t → b ≤ 64 → length (operatorsOf f t b) ≤ 49088
+operators-few f t b v h = rw (operators-length f t b) (few-operators f t b (methodCount t) v h (omega arith))
+
 -- One section, one for each variable, one, one for each operator, and one.
 pub sections-length : (f : ℕ) (t : Table) (b : ℕ) → length (sectionsOf f t b) ≡ variableCount t b + length (operatorsOf f t b) + 3
 unfolding sectionsOf
