@@ -4,12 +4,12 @@ use mathlib.Core.List.{List}
 use Rattle.rules.specs.Readings.{Reading, got, bad, _>>=_, give}
 use Rattle.rules.specs.Numbers.{ranged}
 use Rattle.rules.specs.Tables.{Header, Action, allFacts}
+use Rattle.words.specs.Words.{actionRead}
 use Rattle.table.specs.declared.Num.{Num}
 use Rattle.table.specs.declared.Num.the-variants.{Got as GotNum, Bad as BadNum}
-use Rattle.table.specs.declared.Action.{Action as CodeAction}
 use Rattle.table.specs.declared.OneAction.{OneAction}
 use Rattle.table.specs.declared.OneAction.the-variants.{Got as GotAction, Bad as BadAction}
-use Rattle.table.specs.declared.Header.{Header as CodeHeader}
+use Rattle.table.specs.declared.Header.{Header as HeaderInCode}
 use Rattle.table.specs.declared.OneHeader.{OneHeader}
 use Rattle.table.specs.declared.OneHeader.the-variants.{Got as GotHeader, Bad as BadHeader}
 use Rattle.table.specs.declared.Step.{Step}
@@ -19,15 +19,12 @@ abbrev pub numOf : Num → Reading ℕ
 numOf (GotNum v next) = got v next
 numOf (BadNum why at) = bad why at
 
-abbrev pub actionOfCode : CodeAction → Action
-actionOfCode a = record { needs = a .needs; adds = a .adds; dels = a .dels; cost = a .cost }
-
 abbrev pub actOf : OneAction → Reading Action
-actOf (GotAction a at) = got (actionOfCode a) at
+actOf (GotAction a at) = got (actionRead a) at
 actOf (BadAction why at) = bad why at
 
-abbrev pub headerOfCode : CodeHeader → Header
-headerOfCode h =
+abbrev pub headerRead : HeaderInCode → Header
+headerRead h =
     record {
       facts = h .facts;
       actions = h .actions;
@@ -39,7 +36,7 @@ headerOfCode h =
     }
 
 abbrev pub headOf : OneHeader → Reading Header
-headOf (GotHeader h at) = got (headerOfCode h) at
+headOf (GotHeader h at) = got (headerRead h) at
 headOf (BadHeader why at) = bad why at
 
 -- The part of `header` that follows the counts.

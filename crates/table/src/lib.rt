@@ -1,4 +1,5 @@
 // Reads a table: a row of numbers, each checked against its range.
+use words::Action;
 ghost use mathlib.Core.Path.{_≡_};
 ghost use Prim.Native.Nat.{ℕ, _+_, _-_, _*_, _^_, _≤_, _<_};
 ghost use lib.ListN.{length, take, drop, getD};
@@ -7,8 +8,8 @@ ghost use Rattle.rules.specs.Lists.{rows};
 ghost use Rattle.rules.specs.Readings.{many};
 ghost use Rattle.rules.specs.Numbers.{run, spell, sound, readNumber, ranged};
 ghost use Rattle.rules.specs.Tables.{allFacts, header, readAction, readMethod, decode};
-ghost use Rattle.words.specs.Words.{headerOf, actionAt, actionOf, cellOf, methodAt, methodOf, tableOf};
-ghost use Rattle.table.specs.Answers.{numOf, actionOfCode, actOf, headerOfCode, headOf, startGoal, stepOf};
+ghost use Rattle.words.specs.Words.{headerOf, actionRead, actionAt, actionOf, cellOf, methodAt, methodOf, tableOf};
+ghost use Rattle.table.specs.Answers.{numOf, actOf, headerRead, headOf, startGoal, stepOf};
 
 // A number and the place after it, or a refusal's number and place.
 enum Num {
@@ -188,13 +189,6 @@ fn field(s: &[u8], at: usize, lo: u64, hi: u64, why: u64) -> Num
     }
 }
 
-struct Action {
-    needs: u64,
-    adds: u64,
-    dels: u64,
-    cost: u64,
-}
-
 enum OneAction {
     Got(Action, usize),
     Bad(u64, usize),
@@ -235,7 +229,7 @@ pub enum Step {
 // An action in the words from b on.
 fn put_action(words: &mut [u64], b: usize, a: Action)
     requires { ⌜ b + 4 ≤ length (now words) ⌝ }
-    ensures { λ _. ⌜ (take b (now (words .exit)) ≡ take b (now (words .entry))) × (actionAt (now (words .exit)) b ≡ actionOfCode a) ⌝ }
+    ensures { λ _. ⌜ (take b (now (words .exit)) ≡ take b (now (words .entry))) × (actionAt (now (words .exit)) b ≡ actionRead a) ⌝ }
 {
     words[b] = a.needs;
     words[b + 1] = a.adds;
@@ -414,7 +408,7 @@ fn read_header(s: &[u8]) -> OneHeader
 // The header in the first seven words.
 fn put_header(words: &mut [u64], h: Header)
     requires { ⌜ 7 ≤ length (now words) ⌝ }
-    ensures { λ _. ⌜ headerOf (now (words .exit)) ≡ headerOfCode h ⌝ }
+    ensures { λ _. ⌜ headerOf (now (words .exit)) ≡ headerRead h ⌝ }
 {
     words[0] = h.facts;
     words[1] = h.actions;

@@ -1,7 +1,7 @@
 use native.Mathlib.Omega.{arith}
 use mathlib.Core.Path.{refl}
 use lib.ListN.{length-set}
-use Rattle.table.specs.Answers.{actionOfCode}
+use Rattle.words.specs.Words.{actionRead}
 use Rattle.table.proofs.WordLaws.{put-action}
 use borrow.Author.Needs.{needs}
 use Rattle.table.proofs.put_action.Statement.{statement}
@@ -46,7 +46,7 @@ same-length : tie.Need-same-length
 same-length c = search needs
 
 returns : tie.Need-returns
-returns c = put-action (c .args .words .now) (c .args .b) (actionOfCode (c .args .a)) (c .pre) _ refl
+returns c = put-action (c .args .words .now) (c .args .b) (actionRead (c .args .a)) (c .pre) _ refl
 
 pub put-action-spec : {M : Type 1} → statement M
 put-action-spec =

@@ -1,7 +1,7 @@
 use native.Mathlib.Omega.{arith}
 use mathlib.Core.Path.{refl}
 use lib.ListN.{length-set}
-use Rattle.table.specs.Answers.{headerOfCode}
+use Rattle.table.specs.Answers.{headerRead}
 use Rattle.table.proofs.WordLaws.{put-header}
 use borrow.Author.Needs.{needs}
 use Rattle.table.proofs.put_header.Statement.{statement}
@@ -34,7 +34,7 @@ same-length : tie.Need-same-length
 same-length c = search needs
 
 returns : tie.Need-returns
-returns c = put-header (c .args .words .now) (headerOfCode (c .args .h)) (c .pre) _ refl
+returns c = put-header (c .args .words .now) (headerRead (c .args .h)) (c .pre) _ refl
 
 pub put-header-spec : {M : Type 1} → statement M
 put-header-spec =

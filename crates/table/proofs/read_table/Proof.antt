@@ -5,7 +5,7 @@ use Rattle.rules.specs.Readings.{Reading, got, bad}
 use Rattle.rules.specs.Tables.{Table, decode, closed}
 use Rattle.rules.specs.Lists.{rows}
 use Rattle.words.specs.Words.{actionOf, methodOf}
-use Rattle.table.specs.Answers.{headerOfCode, headOf, stepOf}
+use Rattle.table.specs.Answers.{headerRead, headOf, stepOf}
 use Rattle.table.specs.declared.Step.{Step}
 use Rattle.table.proofs.AnswerLaws.{via}
 use Rattle.table.proofs.WordLaws.{table-held}
@@ -133,7 +133,7 @@ returns-5 c =
     let w₁ = c .before .before .before .before .before .before .before .before .before .before .before .before .before .before .before .before .before .before .before .put-header .last .0 in
     let w₂ = c .before .before .before .before .before .before .before .before .before .before .before .before .before .before .read-actions .last .1 .1 .0 in
     let w₃ = c .before .before .before .before .before .before .read-methods .last .1 .1 .0 in
-    let t = table-held w₁ w₂ w₃ (headerOfCode (c .before .before .before .before .before .before .before .before .before .before .before .before .before .before .before .before .before .before .before .before .before .before .h .given .0 .0)) (c .before .before .before .before .before .before .before .before .before .before .before .before .before .before .before .before .before .before .before .put-header .ensures) (c .before .before .before .before .before .before .before .before .before .before .before .before .before .before .read-actions .ensures .1) (c .before .before .before .before .before .before .read-methods .ensures .1) (b .actions) in
+    let t = table-held w₁ w₂ w₃ (headerRead (c .before .before .before .before .before .before .before .before .before .before .before .before .before .before .before .before .before .before .before .before .before .before .h .given .0 .0)) (c .before .before .before .before .before .before .before .before .before .before .before .before .before .before .before .before .before .before .before .put-header .ensures) (c .before .before .before .before .before .before .before .before .before .before .before .before .before .before .read-actions .ensures .1) (c .before .before .before .before .before .before .read-methods .ensures .1) (b .actions) in
     rw (
       via headOf (c .before .before .before .before .before .before .before .before .before .before .before .before .before .before .before .before .before .before .before .before .before .before .before .before .read-header .ensures) (c .before .before .before .before .before .before .before .before .before .before .before .before .before .before .before .before .before .before .before .before .before .before .h .given .1),
       ← c .before .before .before .before .before .before .before .before .before .before .before .before .before .before .before .before .all-facts .ensures,
