@@ -182,9 +182,10 @@ fn field(s: &[u8], at: usize, lo: u64, hi: u64, why: u64) -> Num
                 return Num::Bad(why, at);
             }
             if hi < v {
-                return Num::Bad(why, at);
+                Num::Bad(why, at)
+            } else {
+                Num::Got(v, next)
             }
-            Num::Got(v, next)
         }
     }
 }

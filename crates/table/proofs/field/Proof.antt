@@ -24,11 +24,11 @@ returns c = rw (via numOf (c .before .before .before .before .number .ensures) (
 
 returns-2 : tie.Need-returns-2
 unfolding ranged inRange
-returns-2 c = rw (via numOf (c .before .before .before .before .before .number .ensures) (c .before .before .before .v .given .1), le-leb _ _ (c .before .if1 .left), lt-leb _ _ (c .if2 .taken))
+returns-2 c = rw (via numOf (c .before .before .before .number .ensures) (c .before .w .given .1))
 
 returns-3 : tie.Need-returns-3
 unfolding ranged inRange
-returns-3 c = rw (via numOf (c .before .before .before .number .ensures) (c .before .w .given .1))
+returns-3 c = rw (via numOf (c .before .before .before .before .before .number .ensures) (c .before .before .before .v .given .1), le-leb _ _ (c .before .if1 .left), lt-leb _ _ (c .if2 .taken))
 
 returns-4 : tie.Need-returns-4
 unfolding ranged inRange
