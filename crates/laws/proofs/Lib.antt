@@ -2,3 +2,4 @@ pub mod ListLaws
 pub mod CountLaws
 pub mod NumberLaws
 pub mod TableLaws
+pub mod RefusalLaws
