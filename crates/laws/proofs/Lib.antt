@@ -1,2 +1,6 @@
 pub mod NumberLaws
 pub mod TableLaws
+pub mod TestLaws
+pub mod SetLaws
+pub mod JoinLaws
+pub mod JoinedPrefix

@@ -1,2 +1,3 @@
 -- The facts that the laws state, by name.
 pub mod Valid
+pub mod Joins
