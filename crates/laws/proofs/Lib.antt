@@ -4,3 +4,5 @@ pub mod TestLaws
 pub mod SetLaws
 pub mod JoinLaws
 pub mod JoinedPrefix
+pub mod LeastLaws
+pub mod RoundLaws
