@@ -3,7 +3,7 @@ use mathlib.Core.Path.{_≡_, refl, sym, ap, ap₂, _∙_}
 use mathlib.Core.Bool.{Bool, true, false, not, _&&_, _||_, cond}
 use mathlib.Core.List.{List, [], _∷_}
 use mathlib.Core.Option.{Option, none, some}
-use Prim.Native.Nat.{ℕ, zero, suc}
+use Prim.Native.Nat.{ℕ, zero}
 use lib.Bits.{bitAnd, bitOr}
 use native.Mathlib.Omega.{arith}
 use lib.Dec.{T}
@@ -11,7 +11,7 @@ use borrow.Author.Tests.{ne-eqb, eqb-true, eqb-false}
 use Rattle.rules.specs.Tables.{Action}
 use Rattle.rules.specs.Facts.{Join, without, empty, holds, changed, noJoin, joinOne, joinFrom, joinOf}
 use Rattle.laws.specs.Joins.{actOn, andThen, runOne, runAll, runJoin}
-use Rattle.laws.proofs.SetLaws.{Set, var, ∅, _∩_, _∪_, _∖_, solve, under}
+use Rattle.laws.proofs.SetLaws.{var, ∅, _∩_, _∪_, _∖_, solve, under}
 
 -- ---- the identities of sets: n a d are the joined sets, n′ a′ d′ the next action's, s the facts
 

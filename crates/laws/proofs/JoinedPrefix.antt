@@ -3,18 +3,18 @@ use Prim.Native.Nat.{ℕ, zero, suc}
 use mathlib.Core.Path.{_≡_, refl, sym, ap, _∙_}
 use mathlib.Core.Bool.{Bool, true, false, _&&_, not, cond}
 use mathlib.Core.List.{List, [], _∷_, _++_, map, tail, append-assoc}
-use mathlib.Core.Option.{Option, none, some}
+use mathlib.Core.Option.{none, some}
 use native.Mathlib.Omega.{arith}
 use lib.ListN.{length, drop}
 use lib.Bits.{bitAnd, bitOr}
 use lib.Dec.{T, ltb, eqb, eqb-refl}
-use Rattle.rules.specs.Tables.{Action, Table, actionCount, action, method}
+use Rattle.rules.specs.Tables.{Table, actionCount, action, method}
 use Rattle.rules.specs.Facts.{Join, without, empty, holds, changed, noJoin, joinOne, joinFrom, joinOf}
 use Rattle.rules.specs.Progression.{State, Step, act, mth, fits, allowed, allAllowed, next, afterAll, leading, prefix, stays}
 use Rattle.rules.specs.Operators.{joined, company, leaves}
-use Rattle.laws.specs.Joins.{actOn, andThen, runAll, runJoin}
+use Rattle.laws.specs.Joins.{actOn, andThen, runAll}
 use Rattle.laws.proofs.TestLaws.{and-l, and-r, and-i}
-use Rattle.laws.proofs.SetLaws.{Set, var, ∅, _∩_, _∪_, _∖_, solve}
+use Rattle.laws.proofs.SetLaws.{var, ∅, _∩_, _∪_, _∖_, solve}
 use Rattle.laws.proofs.JoinLaws.{facts-step, unchanged, join-runs, join-ran, join-can}
 
 -- Every task is an action.

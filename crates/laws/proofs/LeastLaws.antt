@@ -1,16 +1,16 @@
 -- The least bound: bounds that are sound and closed under the methods give it.
-use Prim.Native.Nat.{ℕ, zero, suc, _+_, _≤_, _<_, max}
-use mathlib.Core.Path.{_≡_, refl, sym, ap, subst, _∙_}
-use mathlib.Core.Bool.{Bool, true, false, _&&_, cond}
-use mathlib.Core.List.{List, [], _∷_, _++_, append-assoc, append-nil}
+use Prim.Native.Nat.{ℕ, _+_, _≤_, max}
+use mathlib.Core.Path.{_≡_, refl}
+use mathlib.Core.Bool.{Bool, true, false, cond}
+use mathlib.Core.List.{List, [], _∷_, _++_, append-assoc}
 use native.Mathlib.Omega.{arith}
 use lib.ListN.{length, length-append}
-use lib.Dec.{T, leb, ltb, eqb, leb→le, le→leb, ltb→lt, lt→ltb, eqb→eq, eqb-refl}
-use Rattle.rules.specs.Tables.{Table, Method, actionCount, methodCount, startTask, method}
-use Rattle.rules.specs.Progression.{Step, act, mth, fits, moved, isEmpty}
-use Rattle.rules.specs.LeastBounds.{Clears, Clearable, Least, boundOf, rise, methodBound, upTo64}
+use lib.Dec.{T, leb, ltb, eqb, leb→le, le→leb, ltb→lt, eqb→eq}
+use Rattle.rules.specs.Tables.{Table, actionCount, methodCount, startTask, method}
+use Rattle.rules.specs.Progression.{Step, act, mth}
+use Rattle.rules.specs.LeastBounds.{Clears, Least, boundOf, rise, upTo64}
 use Rattle.laws.specs.Bounds.{Sound, Closed}
-use Rattle.laws.proofs.TestLaws.{and-l, and-r, and-i}
+use Rattle.laws.proofs.TestLaws.{and-l, and-r}
 
 rise-right : (v xs ys : List ℕ) → rise v ys ≤ rise v (xs ++ ys)
 rise-right v [] ys = omega arith

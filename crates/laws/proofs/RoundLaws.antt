@@ -1,18 +1,18 @@
 -- The rounds end in sound and closed bounds: the computed bound is the least.
-use Prim.Native.Nat.{ℕ, zero, suc, _+_, _≤_, _<_, max}
-use mathlib.Core.Path.{_≡_, refl, sym, ap, subst, _∙_}
-use mathlib.Core.Bool.{Bool, true, false, _&&_, not, cond}
+use Prim.Native.Nat.{ℕ, zero, suc, _+_, _≤_, _<_}
+use mathlib.Core.Path.{_≡_, refl}
+use mathlib.Core.Bool.{Bool, true, false, not, cond}
 use mathlib.Core.List.{List, [], _∷_, _++_, append-nil}
 use native.Mathlib.Omega.{arith}
 use native.Mathlib.Decide.{ℕ-discrete, decLt}
-use lib.ListN.{length, getD, set, replicate, length-append, length-replicate, length-set}
+use lib.ListN.{length, set, replicate, length-append, length-replicate, length-set}
 use lib.Seq.{getD-set-same, getD-set-other}
-use lib.Dec.{T, leb, ltb, eqb, leb→le, ltb→lt, lt→ltb, nltb→le, eqb-refl}
+use lib.Dec.{T, ltb, eqb, ltb→lt, lt→ltb, nltb→le, eqb-refl}
 use Rattle.rules.specs.Tables.{Table, Method, actionCount, taskCount, methodCount, startTask, method}
 use Rattle.rules.specs.Progression.{Step, act, mth}
 use Rattle.rules.specs.LeastBounds.{Clears, Least, boundOf, rise, methodBound, lowers, improve, round, settled, rounds, total, first, upTo64, leastBound}
 use Rattle.laws.specs.Valid.{Valid}
-use Rattle.laws.specs.Bounds.{Sound, Closed, Kept}
+use Rattle.laws.specs.Bounds.{Sound, Kept}
 use Rattle.laws.proofs.TestLaws.{and-l, and-r, and-i, not-and-not}
 use Rattle.laws.proofs.LeastLaws.{clear-all, least}
 
