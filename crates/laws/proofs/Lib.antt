@@ -1,3 +1,4 @@
+pub mod ListLaws
 pub mod NumberLaws
 pub mod TableLaws
 pub mod TestLaws
