@@ -1,7 +1,7 @@
 -- The rounds end in sound and closed bounds: the computed bound is the least.
 use Prim.Native.Nat.{ℕ, zero, suc, _+_, _≤_, _<_}
-use mathlib.Core.Path.{_≡_, refl}
-use mathlib.Core.Bool.{Bool, true, false, not, cond}
+use mathlib.Core.Path.{_≡_, refl, sym, subst, _∙_}
+use mathlib.Core.Bool.{Bool, true, false, _&&_, _||_, not, cond}
 use mathlib.Core.List.{List, [], _∷_, _++_, append-nil}
 use native.Mathlib.Omega.{arith}
 use native.Mathlib.Decide.{ℕ-discrete, decLt}
@@ -206,6 +206,44 @@ least-one t zero zero p q = refl
 least-one t zero (suc r′) p q = absurd (omega (arith, half t (suc r′) zero q p (omega arith)))
 least-one t (suc r) zero p q = absurd (omega (arith, half t (suc r) zero p q (omega arith)))
 least-one t (suc r) (suc r′) p q = omega (arith, half t (suc r) (suc r′) p q (omega arith), half t (suc r′) (suc r) q p (omega arith))
+
+-- What a loop of rounds sees: the bounds' length stays, and the answer of a round says whether one more is due.
+pub improve-length : (v : List ℕ) (m : Method) → length (improve v m) ≡ length v
+improve-length v m = go (lowers v m)
+  where
+    go : (c : Bool) → length (cond c (set v (m .head) (methodBound v m)) v) ≡ length v
+    go true = length-set v (m .head) (methodBound v m)
+    go false = refl
+
+pub round-length : (t : Table) (v : List ℕ) (k : ℕ) → length (round t v k) ≡ length v
+round-length t v zero = refl
+round-length t v (suc k) = improve-length (round t v k) (method t k) ∙ round-length t v k
+
+pub settled-more : (t : Table) (v : List ℕ) (k : ℕ) → (not (settled t v k) || lowers (round t v k) (method t k)) ≡ not (settled t v (suc k))
+settled-more t v k = go (settled t v k) refl
+  where
+    both : (b : Bool) → b ≡ not (not b)
+    both true = refl
+    both false = refl
+
+    go : (c : Bool) → settled t v k ≡ c → (not c || lowers (round t v k) (method t k)) ≡ not (c && not (lowers v (method t k)))
+    go true e = rw (still t v k (rw e tt)) (both (lowers v (method t k)))
+    go false e = refl
+
+settles-by : (c : Bool) → false ≡ not c → T c
+settles-by true e = tt
+settles-by false e = subst T (sym e) tt
+
+pub round-settles : (t : Table) (v : List ℕ) → false ≡ not (settled t v (methodCount t))
+    → T (settled t (round t v (methodCount t)) (methodCount t))
+round-settles t v e =
+    let h = settles-by (settled t v (methodCount t)) e in
+    rw (still t v (methodCount t) h) h
+
+pub round-falls : (t : Table) (v : List ℕ) → Valid t → Kept t v → (r : Bool) → r ≡ not (settled t v (methodCount t))
+    → total (round t v (methodCount t)) + cond r 1 0 < total v + 1
+round-falls t v valid q true e = omega (arith, falls t valid v q (methodCount t) (omega arith) (rw (← e) tt))
+round-falls t v valid q false e = rw (still t v (methodCount t) (settles-by (settled t v (methodCount t)) e)) (omega arith)
 
 pub settled-least : (t : Table) (v : List ℕ) → Valid t → Kept t v → T (settled t v (methodCount t)) → leastBound t ≡ upTo64 (boundOf v (startTask t))
 settled-least t v valid q h = least-one t _ _ (computed t valid) (settled-is-least t v q h)
