@@ -1,20 +1,18 @@
 -- A turn of each loop over bounds.
 use Prim.Native.Nat.{ℕ, zero, suc, _+_, _-_, _≤_, _<_, max}
 use mathlib.Core.Path.{_≡_, refl, sym, ap, ap₂, _∙_}
-use mathlib.Core.Bool.{Bool, true, false, not, _||_, cond}
+use mathlib.Core.Bool.{Bool, true, false, not, _||_}
 use mathlib.Core.List.{List, [], _∷_}
 use native.Mathlib.Omega.{arith}
 use native.Mathlib.Numerals.{add-one}
 use native.Mathlib.Decide.{ℕ-discrete}
 use lib.ListN.{length, getD, set, drop, replicate, length-replicate, drop-of-length-le, length-drop, length-set}
 use lib.Seq.{drop-cons, getD-set-same, getD-set-other}
-use lib.Dec.{T}
 use borrow.Author.Tests.{lt-ltb, le-ltb, le-leb, lt-leb}
-use Rattle.rules.specs.Tables.{Table, Method, actionCount, taskCount, methodCount, startTask, method}
-use Rattle.rules.specs.LeastBounds.{boundOf, rise, methodBound, lowers, improve, round, settled, upTo64, leastBound}
-use Rattle.laws.specs.Valid.{Valid}
+use Rattle.rules.specs.Tables.{Table, Method, actionCount, taskCount, startTask, method}
+use Rattle.rules.specs.LeastBounds.{boundOf, rise, methodBound, lowers, improve, round, settled, upTo64}
 use Rattle.laws.specs.Bounds.{Kept}
-use Rattle.laws.proofs.RoundLaws.{settled-more, begins, settled-least}
+use Rattle.laws.proofs.RoundLaws.{settled-more, begins}
 use Rattle.least.specs.Ones.{Ones}
 
 pub left-less : (n j : ℕ) → j < n → n - (j + 1) < n - j
@@ -99,11 +97,11 @@ ones-more old i v h q =
     low c l (no e) = getD-set-other v i c 1 65 e ∙ q .low c (omega arith)
 
 -- The bounds that the rounds begin with.
-all-65 : (n c : ℕ) → boundOf (replicate n 65) c ≡ 65
-all-65 zero c = refl
-all-65 (suc n) zero = refl
-all-65 (suc n) (suc c) = all-65 n c
+none-known : (n c : ℕ) → boundOf (replicate n 65) c ≡ 65
+none-known zero c = refl
+none-known (suc n) zero = refl
+none-known (suc n) (suc c) = none-known n c
 
 pub ones-kept : (t : Table) (n a : ℕ) (v : List ℕ) → a ≡ actionCount t → taskCount t ≤ n → Ones (replicate n 65) a v → Kept t v
 ones-kept t n a v e l q =
-    begins t v (omega (arith, q .size, length-replicate {A = ℕ} n 65)) (λ c h. q .low c (omega arith)) (λ c h. q .high c (omega arith) ∙ all-65 n c)
+    begins t v (omega (arith, q .size, length-replicate {A = ℕ} n 65)) (λ c h. q .low c (omega arith)) (λ c h. q .high c (omega arith) ∙ none-known n c)

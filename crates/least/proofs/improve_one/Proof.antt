@@ -6,48 +6,34 @@ use Rattle.least.proofs.BoundLaws.{lowered, stayed}
 use borrow.Author.Needs.{needs}
 use Rattle.least.proofs.improve_one.Statement.{statement}
 use Rattle.least.proofs.improve_one.Tie as tie
-use Rattle.least.proofs.improve_one.Reads as reads
-use Rattle.least.proofs.improve_one.Lts as lts
-use Rattle.least.proofs.method_bound.Reads as method-bound-reads
-use Rattle.words.proofs.head_of.Reads as head-of-reads
 
--- src/lib.rt:43:9
 head-of-requires : tie.Need-head-of-requires
 head-of-requires c κs = search needs
 
--- src/lib.rt:44:9
 method-bound-requires : tie.Need-method-bound-requires
 method-bound-requires c κs = search needs
 
--- src/lib.rt:45:15
 slice-read-old : tie.Need-slice-read-old
 slice-read-old c = omega (arith, head-low (c .before .before .before .before .before .before .args .words .now) (c .before .before .before .before .before .before .pre .0) (c .before .before .before .before .before .before .args .k) (c .before .before .before .before .before .before .pre .1))
 
--- src/lib.rt:45:15
 cast-old : tie.Need-cast-old
 cast-old c = omega (arith, c .slice-known2 .given (c .before .before .before .head-of .result))
 
--- src/lib.rt:47:24
 cast-bounds : tie.Need-cast-bounds
 cast-bounds c = omega (arith, c .before .slice-known2 .given (c .before .before .before .before .head-of .result))
 
--- src/lib.rt:47:9
 slice-write-bounds : tie.Need-slice-write-bounds
 slice-write-bounds c = omega (arith, head-low (c .before .before .before .before .before .before .before .args .words .now) (c .before .before .before .before .before .before .before .pre .0) (c .before .before .before .before .before .before .before .args .k) (c .before .before .before .before .before .before .before .pre .1))
 
--- src/lib.rt:48:9
 same-length : tie.Need-same-length
 same-length c = search needs
 
--- src/lib.rt:48:9
 returns : tie.Need-returns
 returns c = lowered (c .before .before .before .before .before .before .before .args .bounds .now) (method (tableOf (c .before .before .before .before .before .before .before .args .words .now)) (c .before .before .before .before .before .before .before .args .k)) (c .before .before .before .before .head-of .result) (c .before .before .method-bound .result) (c .before .before .before .before .head-of .ensures) (c .before .before .method-bound .ensures) (omega (arith, head-low (c .before .before .before .before .before .before .before .args .words .now) (c .before .before .before .before .before .before .before .pre .0) (c .before .before .before .before .before .before .before .args .k) (c .before .before .before .before .before .before .before .pre .1))) (c .if1 .taken)
 
--- src/lib.rt:38:1
 same-length-2 : tie.Need-same-length-2
 same-length-2 c = search needs
 
--- src/lib.rt:38:1
 returns-2 : tie.Need-returns-2
 returns-2 c = stayed (c .before .before .before .before .before .before .before .args .bounds .now) (method (tableOf (c .before .before .before .before .before .before .before .args .words .now)) (c .before .before .before .before .before .before .before .args .k)) (c .before .before .before .before .head-of .result) (c .before .before .method-bound .result) (c .before .before .before .before .head-of .ensures) (c .before .before .method-bound .ensures) (omega (arith, head-low (c .before .before .before .before .before .before .before .args .words .now) (c .before .before .before .before .before .before .before .pre .0) (c .before .before .before .before .before .before .before .args .k) (c .before .before .before .before .before .before .before .pre .1))) (c .if1 .left)
 

@@ -1,20 +1,15 @@
-use mathlib.Core.Path.{_≡_, refl, sym, ap, _∙_}
-use Prim.Native.Nat.{ℕ, _+_, _-_, _≤_, max}
+use mathlib.Core.Path.{_≡_, refl}
+use Prim.Native.Nat.{_-_, _≤_, max}
 use native.Mathlib.Omega.{arith}
-use lib.ListN.{length, drop}
+use lib.ListN.{drop}
 use Rattle.rules.specs.Tables.{method}
-use Rattle.rules.specs.LeastBounds.{boundOf, rise, methodBound}
+use Rattle.rules.specs.LeastBounds.{rise, methodBound}
 use Rattle.words.specs.Words.{tableOf}
 use Rattle.words.proofs.ViewLaws.{subtask-low, width-small}
 use Rattle.least.proofs.BoundLaws.{left-less, bound-turn, bound-end}
 use borrow.Author.Needs.{needs}
 use Rattle.least.proofs.method_bound.Statement.{statement}
 use Rattle.least.proofs.method_bound.Tie as tie
-use Rattle.least.proofs.method_bound.Reads as reads
-use Rattle.least.proofs.method_bound.Lts as lts
-use Rattle.least.proofs.higher.Reads as higher-reads
-use Rattle.words.proofs.subtask.Reads as subtask-reads
-use Rattle.words.proofs.width_of.Reads as width-of-reads
 
 abbrev Inv-loop : tie.InvT-loop
 Inv-loop words k bounds n best₀ j₀ best j =
@@ -23,58 +18,45 @@ Inv-loop words k bounds n best₀ j₀ best j =
 abbrev μ-loop : tie.MeasureT-loop
 μ-loop words k bounds n best₀ j₀ best j = n - j
 
--- src/lib.rt:23:9
 width-of-requires : tie.Need-width-of-requires Inv-loop μ-loop
 width-of-requires c κs = search needs
 
--- src/lib.rt:26:5
 loop-holds : tie.Need-loop-holds Inv-loop μ-loop
 loop-holds c = (search needs, refl)
 
--- src/lib.rt:27:13
 subtask-requires : tie.Need-subtask-requires Inv-loop μ-loop
 subtask-requires c κs = search needs
 
--- src/lib.rt:28:19
 shared-slice-read-own : tie.Need-shared-slice-read-own Inv-loop μ-loop
 shared-slice-read-own c = omega (arith, subtask-low (c .before .before .before .before .before .before .before .args .words .now) (c .before .before .before .before .before .before .before .pre .0) (c .before .before .before .before .before .before .before .args .k) (c .before .before .before .before .before .before .before .pre .1) (c .before .before .before .loop .j) (omega arith))
 
--- src/lib.rt:28:19
 cast-own : tie.Need-cast-own Inv-loop μ-loop
 cast-own c = omega (arith, c .shared-slice-known3 .given (c .before .subtask .result))
 
--- src/lib.rt:29:22
 sub-under : tie.Need-sub-under Inv-loop μ-loop
 sub-under c = search needs
 
--- src/lib.rt:29:22
 sub-under-2 : tie.Need-sub-under-2 Inv-loop μ-loop
 sub-under-2 c = search needs
 
--- src/lib.rt:30:29
 add-higher : tie.Need-add-higher Inv-loop μ-loop
 add-higher c = omega (arith, c .shared-slice-known3 .given (c .before .subtask .result), width-small (c .before .before .before .before .before .before .before .args .words .now) (c .before .before .before .before .before .before .before .pre .0) (c .before .before .before .before .before .before .before .args .k) (c .before .before .before .before .before .before .before .pre .1))
 
--- src/lib.rt:30:9
 higher-requires : tie.Need-higher-requires Inv-loop μ-loop
 higher-requires c κs = search needs
 
--- src/lib.rt:31:9
 add-j : tie.Need-add-j Inv-loop μ-loop
 add-j c = search needs
 
--- src/lib.rt:26:5
 loop-less : tie.Need-loop-less Inv-loop μ-loop
 loop-less c = left-less _ _ (c .before .before .before .loop-test .taken)
 
--- src/lib.rt:26:5
 loop-again : tie.Need-loop-again Inv-loop μ-loop
 loop-again c = (
   omega (arith, c .before .before .before .loop-test .taken),
   bound-turn _ _ _ _ _ _ _ _ (c .before .before .before .before .before .width-of .ensures) (c .before .before .before .loop-test .taken) (c .before .before .subtask .ensures) (omega (arith, subtask-low (c .before .before .before .before .before .before .before .before .args .words .now) (c .before .before .before .before .before .before .before .before .pre .0) (c .before .before .before .before .before .before .before .before .args .k) (c .before .before .before .before .before .before .before .before .pre .1) (c .before .before .before .before .loop .j) (omega arith))) (c .higher .ensures) (c .before .before .before .before .loop .inv .1),
 )
 
--- src/lib.rt:19:1
 returns : tie.Need-returns Inv-loop μ-loop
 returns c = bound-end (c .before .before .before .before .before .args .bounds .now) (method (tableOf (c .before .before .before .before .before .args .words .now)) (c .before .before .before .before .before .args .k) .subs) (c .before .loop .j) (c .before .loop .best) _ (omega (arith, c .before .before .width-of .ensures)) (c .before .loop .inv .1)
 

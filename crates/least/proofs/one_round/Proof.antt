@@ -1,22 +1,16 @@
-use mathlib.Core.Path.{_≡_, refl, sym, ap, ap₂, _∙_}
-use mathlib.Core.Bool.{Bool, not, _||_}
-use mathlib.Core.List.{List}
-use Prim.Native.Nat.{ℕ, _+_, _-_, _≤_}
+use mathlib.Core.Path.{_≡_, refl, ap, _∙_}
+use mathlib.Core.Bool.{not}
+use Prim.Native.Nat.{ℕ, _-_, _≤_}
 use native.Mathlib.Omega.{arith}
-use native.Mathlib.Numerals.{add-one}
 use lib.ListN.{length}
 use Rattle.rules.specs.Tables.{methodCount}
-use Rattle.rules.specs.LeastBounds.{lowers, improve, round, settled}
+use Rattle.rules.specs.LeastBounds.{round, settled}
 use Rattle.laws.proofs.RoundLaws.{round-length}
 use Rattle.words.specs.Words.{tableOf}
 use Rattle.least.proofs.BoundLaws.{left-less, round-more, lowered-more}
 use borrow.Author.Needs.{needs}
 use Rattle.least.proofs.one_round.Statement.{statement}
 use Rattle.least.proofs.one_round.Tie as tie
-use Rattle.least.proofs.one_round.Reads as reads
-use Rattle.least.proofs.one_round.Lts as lts
-use Rattle.least.proofs.improve_one.Reads as improve-one-reads
-use Rattle.words.proofs.method_count.Reads as method-count-reads
 
 abbrev Inv-loop : tie.InvT-loop
 Inv-loop words bounds₀ n lowered₀ k₀ bounds lowered k =
@@ -25,15 +19,12 @@ Inv-loop words bounds₀ n lowered₀ k₀ bounds lowered k =
 abbrev μ-loop : tie.MeasureT-loop
 μ-loop words bounds₀ n lowered₀ k₀ bounds lowered k = n - k
 
--- src/lib.rt:59:9
 method-count-requires : tie.Need-method-count-requires Inv-loop μ-loop
 method-count-requires c κs = search needs
 
--- src/lib.rt:62:5
 loop-holds : tie.Need-loop-holds Inv-loop μ-loop
 loop-holds c = (search needs, refl, refl)
 
--- src/lib.rt:63:13
 improve-one-requires : tie.Need-improve-one-requires Inv-loop μ-loop
 improve-one-requires c κs =
     let z = c .before .before .loop in
@@ -43,15 +34,12 @@ improve-one-requires c κs =
       omega (arith, ap length (z .inv .1), round-length (tableOf (s .args .words .now)) (s .args .bounds .now) (z .k), s .pre .1 .size),
     )
 
--- src/lib.rt:65:9
 add-k : tie.Need-add-k Inv-loop μ-loop
 add-k c = search needs
 
--- src/lib.rt:62:5
 loop-less : tie.Need-loop-less Inv-loop μ-loop
 loop-less c = left-less _ _ (c .before .before .before .before .loop-test .taken)
 
--- src/lib.rt:62:5
 loop-again : tie.Need-loop-again Inv-loop μ-loop
 loop-again c =
     let z = c .before .before .before .before .before .loop in
@@ -62,11 +50,9 @@ loop-again c =
       lowered-more (tableOf (s .args .words .now)) (s .args .bounds .now) (z .bounds) (z .k) (z .inv .1) (z .lowered) (i .result) (z .inv .2) (i .ensures .1),
     )
 
--- src/lib.rt:54:1
 same-length : tie.Need-same-length Inv-loop μ-loop
 same-length c = ap length (c .before .loop .inv .1) ∙ round-length (tableOf (c .before .before .before .before .before .args .words .now)) (c .before .before .before .before .before .args .bounds .now) (c .before .loop .k)
 
--- src/lib.rt:54:1
 returns : tie.Need-returns Inv-loop μ-loop
 returns c =
     let z = c .before .loop in

@@ -9,12 +9,8 @@ use Rattle.rules.specs.LeastBounds.{settled, total}
 use Rattle.laws.specs.Bounds.{Kept}
 use Rattle.laws.proofs.RoundLaws.{rounded, round-length, round-settles, round-falls}
 use Rattle.words.specs.Words.{tableOf}
-use borrow.Author.Needs.{needs}
 use Rattle.least.proofs.settle.Statement.{statement}
 use Rattle.least.proofs.settle.Tie as tie
-use Rattle.least.proofs.settle.Reads as reads
-use Rattle.least.proofs.settle.Lts as lts
-use Rattle.least.proofs.one_round.Reads as one-round-reads
 
 abbrev Inv-loop : tie.InvT-loop
 Inv-loop words bounds₀ again₀ bounds again =
@@ -23,15 +19,12 @@ Inv-loop words bounds₀ again₀ bounds again =
 abbrev μ-loop : tie.MeasureT-loop
 μ-loop words bounds₀ again₀ bounds again = total bounds + cond again 1 0
 
--- src/lib.rt:77:5
 loop-holds : tie.Need-loop-holds Inv-loop μ-loop
 loop-holds c = (c .before .before .pre .1, λ e. absurd (subst T e tt), refl)
 
--- src/lib.rt:78:9
 one-round-requires : tie.Need-one-round-requires Inv-loop μ-loop
 one-round-requires c κs = (c .before .before .before .before .before .pre .0, c .before .before .loop .inv .0)
 
--- src/lib.rt:77:5
 loop-less : tie.Need-loop-less Inv-loop μ-loop
 loop-less c =
     let z = c .before .before .before .before .before .loop in
@@ -39,7 +32,6 @@ loop-less c =
     let r = c .before .before .one-round in
     rw (c .before .before .before .before .loop-test .taken, r .ensures .0) (round-falls (tableOf (s .args .words .now)) (z .bounds) (s .pre .0 .valid) (z .inv .0) (r .result) (r .ensures .1))
 
--- src/lib.rt:77:5
 loop-again : tie.Need-loop-again Inv-loop μ-loop
 loop-again c =
     let z = c .before .before .before .before .before .loop in
@@ -51,11 +43,9 @@ loop-again c =
       rw (r .ensures .0) (round-length t (z .bounds) (methodCount t) ∙ z .inv .2),
     )
 
--- src/lib.rt:71:1
 same-length : tie.Need-same-length Inv-loop μ-loop
 same-length c = c .before .loop .inv .2
 
--- src/lib.rt:71:1
 returns : tie.Need-returns Inv-loop μ-loop
 returns c = (c .before .loop .inv .0, c .before .loop .inv .1 (c .loop-test .left))
 

@@ -4,23 +4,16 @@ use Rattle.least.proofs.BoundLaws.{start-low, start-high}
 use borrow.Author.Needs.{needs}
 use Rattle.least.proofs.start_bound.Statement.{statement}
 use Rattle.least.proofs.start_bound.Tie as tie
-use Rattle.least.proofs.start_bound.Reads as reads
-use Rattle.least.proofs.start_bound.Lts as lts
-use Rattle.words.proofs.start_task.Reads as start-task-reads
 
--- src/lib.rt:99:17
 start-task-requires : tie.Need-start-task-requires
 start-task-requires c κs = search needs
 
--- src/lib.rt:100:17
 shared-slice-read-bound : tie.Need-shared-slice-read-bound
 shared-slice-read-bound c = search needs
 
--- src/lib.rt:100:17
 cast-bound : tie.Need-cast-bound
 cast-bound c = omega (arith, c .shared-slice-known3 .given (c .before .start-task .result))
 
--- src/lib.rt:95:1
 returns : tie.Need-returns
 returns c =
     let s = c .before .before .before .before .before in
@@ -28,7 +21,6 @@ returns c =
     start-low (tableOf (s .args .words .now)) (s .args .bounds .now) (c .before .before .start-task .result) e
     (omega (arith, e, s .pre .0 .valid .head .abstracts, s .pre .0 .valid .head .start-high, s .pre .1)) (c .if1 .taken)
 
--- src/lib.rt:95:1
 returns-2 : tie.Need-returns-2
 returns-2 c =
     let s = c .before .before .before .before .before in
