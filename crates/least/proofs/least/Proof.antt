@@ -22,7 +22,11 @@ slice-aggregate-settle c = search needs
 settle-requires : tie.Need-settle-requires
 settle-requires c κs =
     let s = c .before .before .before .before .before .before in
-    (s .pre, ones-kept (tableOf (s .args .words .now)) 256 (c .before .before .before .action-count .result) _ (c .before .before .before .action-count .ensures) (omega (arith, s .pre .valid .head .actions, s .pre .valid .head .tasks)) (c .before .before .put-ones .ensures))
+    let n = c .before .before .before .action-count in (
+      s .pre,
+      ones-kept (tableOf (s .args .words .now)) 256 (n .result) _ (n .ensures)
+          (omega (arith, s .pre .valid .head .actions, s .pre .valid .head .tasks)) (c .before .before .put-ones .ensures),
+    )
 
 slice-aggregate-start-bound : tie.Need-slice-aggregate-start-bound
 slice-aggregate-start-bound c = search needs

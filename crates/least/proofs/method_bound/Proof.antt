@@ -28,7 +28,10 @@ subtask-requires : tie.Need-subtask-requires Inv-loop μ-loop
 subtask-requires c κs = search needs
 
 shared-slice-read-own : tie.Need-shared-slice-read-own Inv-loop μ-loop
-shared-slice-read-own c = omega (arith, subtask-low (c .before .before .before .before .before .before .before .args .words .now) (c .before .before .before .before .before .before .before .pre .0) (c .before .before .before .before .before .before .before .args .k) (c .before .before .before .before .before .before .before .pre .1) (c .before .before .before .loop .j) (omega arith))
+shared-slice-read-own c =
+    let z = c .before .before .before .loop in
+    let s = c .before .before .before .before .before .before .before in
+    omega (arith, subtask-low (s .args .words .now) (s .pre .0) (s .args .k) (s .pre .1) (z .j) (omega arith))
 
 cast-own : tie.Need-cast-own Inv-loop μ-loop
 cast-own c = omega (arith, c .shared-slice-known3 .given (c .before .subtask .result))
@@ -40,7 +43,9 @@ sub-under-2 : tie.Need-sub-under-2 Inv-loop μ-loop
 sub-under-2 c = search needs
 
 add-higher : tie.Need-add-higher Inv-loop μ-loop
-add-higher c = omega (arith, c .shared-slice-known3 .given (c .before .subtask .result), width-small (c .before .before .before .before .before .before .before .args .words .now) (c .before .before .before .before .before .before .before .pre .0) (c .before .before .before .before .before .before .before .args .k) (c .before .before .before .before .before .before .before .pre .1))
+add-higher c =
+    let s = c .before .before .before .before .before .before .before in
+    omega (arith, c .shared-slice-known3 .given (c .before .subtask .result), width-small (s .args .words .now) (s .pre .0) (s .args .k) (s .pre .1))
 
 higher-requires : tie.Need-higher-requires Inv-loop μ-loop
 higher-requires c κs = search needs
@@ -52,13 +57,20 @@ loop-less : tie.Need-loop-less Inv-loop μ-loop
 loop-less c = left-less _ _ (c .before .before .before .loop-test .taken)
 
 loop-again : tie.Need-loop-again Inv-loop μ-loop
-loop-again c = (
-  omega (arith, c .before .before .before .loop-test .taken),
-  bound-turn _ _ _ _ _ _ _ _ (c .before .before .before .before .before .width-of .ensures) (c .before .before .before .loop-test .taken) (c .before .before .subtask .ensures) (omega (arith, subtask-low (c .before .before .before .before .before .before .before .before .args .words .now) (c .before .before .before .before .before .before .before .before .pre .0) (c .before .before .before .before .before .before .before .before .args .k) (c .before .before .before .before .before .before .before .before .pre .1) (c .before .before .before .before .loop .j) (omega arith))) (c .higher .ensures) (c .before .before .before .before .loop .inv .1),
-)
+loop-again c =
+    let z = c .before .before .before .before .loop in
+    let s = c .before .before .before .before .before .before .before .before in
+    let u = c .before .before .before .loop-test .taken in (
+      omega arith,
+      bound-turn _ _ _ _ _ _ _ _ (c .before .before .before .before .before .width-of .ensures) u (c .before .before .subtask .ensures)
+          (omega (arith, subtask-low (s .args .words .now) (s .pre .0) (s .args .k) (s .pre .1) (z .j) (omega arith))) (c .higher .ensures) (z .inv .1),
+    )
 
 returns : tie.Need-returns Inv-loop μ-loop
-returns c = bound-end (c .before .before .before .before .before .args .bounds .now) (method (tableOf (c .before .before .before .before .before .args .words .now)) (c .before .before .before .before .before .args .k) .subs) (c .before .loop .j) (c .before .loop .best) _ (omega (arith, c .before .before .width-of .ensures)) (c .before .loop .inv .1)
+returns c =
+    let z = c .before .loop in
+    let a = c .before .before .before .before .before .args in
+    bound-end (a .bounds .now) (method (tableOf (a .words .now)) (a .k) .subs) (z .j) (z .best) _ (omega (arith, c .before .before .width-of .ensures)) (z .inv .1)
 
 pub method-bound-spec : {M : Type 1} → statement M
 method-bound-spec =

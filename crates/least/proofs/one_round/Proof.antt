@@ -43,22 +43,27 @@ loop-less c = left-less _ _ (c .before .before .before .before .loop-test .taken
 loop-again : tie.Need-loop-again Inv-loop μ-loop
 loop-again c =
     let z = c .before .before .before .before .before .loop in
-    let s = c .before .before .before .before .before .before .before .before .before in
-    let i = c .before .before .improve-one in (
+    let a = c .before .before .before .before .before .before .before .before .before .args in
+    let t = tableOf (a .words .now) in
+    let i = c .before .before .improve-one .ensures in (
       omega (arith, c .before .before .before .before .loop-test .taken),
-      round-more (tableOf (s .args .words .now)) (s .args .bounds .now) (z .bounds) (z .k) (z .inv .1) _ (i .ensures .0),
-      lowered-more (tableOf (s .args .words .now)) (s .args .bounds .now) (z .bounds) (z .k) (z .inv .1) (z .lowered) (i .result) (z .inv .2) (i .ensures .1),
+      round-more t (a .bounds .now) (z .bounds) (z .k) (z .inv .1) _ (i .0),
+      lowered-more t (a .bounds .now) (z .bounds) (z .k) (z .inv .1) _ _ (z .inv .2) (i .1),
     )
 
 same-length : tie.Need-same-length Inv-loop μ-loop
-same-length c = ap length (c .before .loop .inv .1) ∙ round-length (tableOf (c .before .before .before .before .before .args .words .now)) (c .before .before .before .before .before .args .bounds .now) (c .before .loop .k)
+same-length c =
+    let z = c .before .loop in
+    let a = c .before .before .before .before .before .args in
+    ap length (z .inv .1) ∙ round-length (tableOf (a .words .now)) (a .bounds .now) (z .k)
 
 returns : tie.Need-returns Inv-loop μ-loop
 returns c =
     let z = c .before .loop in
-    let s = c .before .before .before .before .before in
-    let e : z .k ≡ methodCount (tableOf (s .args .words .now)) = omega (arith, c .before .before .method-count .ensures, c .loop-test .left) in
-    (z .inv .1 ∙ ap (round (tableOf (s .args .words .now)) (s .args .bounds .now)) e, z .inv .2 ∙ ap (λ (n : ℕ). not (settled (tableOf (s .args .words .now)) (s .args .bounds .now) n)) e)
+    let a = c .before .before .before .before .before .args in
+    let t = tableOf (a .words .now) in
+    let e : z .k ≡ methodCount t = omega (arith, c .before .before .method-count .ensures, c .loop-test .left) in
+    (z .inv .1 ∙ ap (round t (a .bounds .now)) e, z .inv .2 ∙ ap (λ (n : ℕ). not (settled t (a .bounds .now) n)) e)
 
 pub one-round-spec : {M : Type 1} → statement M
 one-round-spec =
