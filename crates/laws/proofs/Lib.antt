@@ -1,4 +1,5 @@
 pub mod ListLaws
+pub mod CountLaws
 pub mod NumberLaws
 pub mod TableLaws
 pub mod TestLaws
