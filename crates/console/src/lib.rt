@@ -1,4 +1,5 @@
 // The entries that the C console calls: numbers and byte slices in, one number out. Each states its outcome for all inputs.
+pub mod least_bound;
 pub mod order;
 pub mod reply;
 pub mod sections;

@@ -1,0 +1,17 @@
+use mathlib.Core.Path.{ap, _∙_}
+use borrow.Author.Needs.{needs}
+use Rattle.rules.specs.Answers.{placeOf}
+use Rattle.console.proofs.least_bound.ildorzhen_least_place.Statement.{statement}
+use Rattle.console.proofs.least_bound.ildorzhen_least_place.Tie as tie
+
+find-requires : tie.Need-find-requires
+find-requires c κs = search needs
+
+place-requires : tie.Need-place-requires
+place-requires c κs = search needs
+
+returns : tie.Need-returns
+returns c = c .place .ensures ∙ ap placeOf (c .before .find .ensures)
+
+pub ildorzhen-least-place-spec : {M : Type 1} → statement M
+ildorzhen-least-place-spec = tie.close (tie.spec find-requires place-requires returns)

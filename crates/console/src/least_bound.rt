@@ -1,0 +1,40 @@
+// The least bound of a table.
+ghost use mathlib.Core.Path.{_≡_};
+ghost use Rattle.rules.specs.Answers.{numberOf, placeOf, valueOf, replyOf, itself};
+ghost use Rattle.rules.specs.Refusals.{findLeast};
+use rules::Reply;
+use table::Step;
+
+fn find(table: &[u8]) -> Reply
+    ensures { λ r. ⌜ replyOf r ≡ findLeast (now (table .entry)) ⌝ }
+{
+    if 32768 < table.len() {
+        return Reply::Refused(3, 0);
+    }
+    let mut words = [0u64; 6147];
+    match table::read_table(table, &mut words) {
+        Step::Bad(why, at) => Reply::Refused(why, at as u64),
+        Step::Next(_) => Reply::Value(least::least(&words)),
+    }
+}
+
+#[no_mangle]
+pub extern "C" fn ildorzhen_least_number(table: &[u8]) -> u64
+    ensures { λ r. ⌜ r ≡ numberOf (findLeast (now (table .entry))) ⌝ }
+{
+    crate::reply::number(find(table))
+}
+
+#[no_mangle]
+pub extern "C" fn ildorzhen_least_place(table: &[u8]) -> u64
+    ensures { λ r. ⌜ r ≡ placeOf (findLeast (now (table .entry))) ⌝ }
+{
+    crate::reply::place(find(table))
+}
+
+#[no_mangle]
+pub extern "C" fn ildorzhen_least_bound(table: &[u8]) -> u64
+    ensures { λ r. ⌜ r ≡ valueOf itself (findLeast (now (table .entry))) ⌝ }
+{
+    crate::reply::value(find(table))
+}
