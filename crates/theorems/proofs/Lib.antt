@@ -5,3 +5,8 @@ pub mod RunLaws
 pub mod Acceptance
 pub mod OneList
 pub mod SolutionLaws
+pub mod PlanTexts
+pub mod StepBytes
+pub mod Demand3
+pub mod Outcomes
+pub mod Examples
