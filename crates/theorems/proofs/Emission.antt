@@ -81,7 +81,7 @@ module _ (f : ℕ) (t : Table) (b k i : ℕ) where
   pub dead-nowhere : T (joined f t (mth k) .dead) → T (emitted f t b (record { what = mth k; at = i })) → ⊥
   dead-nowhere d h = T-not (joined f t (mth k) .dead) (method-emitted .0 h .1) d
 
--- In the plain form no method is dead, and all subtasks stay.
+-- In the plain form no method is dead.
 pub plain-living : (t : Table) (k : ℕ) → joined 0 t (mth k) .dead ≡ false
 unfolding joined joinOf joinFrom
 plain-living t k = refl
