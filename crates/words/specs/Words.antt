@@ -1,0 +1,50 @@
+-- A table in memory: 6,147 words, of which a header stands in 0 to 6, an action in four from 7 on, a method in ten from 1,027 on.
+use Prim.Native.Nat.{ℕ, _+_, _*_, _≤_}
+use mathlib.Core.List.{List}
+use lib.ListN.{length, getD}
+use Rattle.rules.specs.Lists.{rows}
+use Rattle.rules.specs.Tables.{Header, Action, Method, Table}
+use Rattle.laws.specs.Valid.{Valid}
+use Rattle.words.specs.declared.Action.{Action as ActionInCode}
+
+abbrev pub headerOf : List ℕ → Header
+headerOf w =
+    record {
+      facts = getD w 0 0;
+      actions = getD w 1 0;
+      abstracts = getD w 2 0;
+      methods = getD w 3 0;
+      start = getD w 4 0;
+      init = getD w 5 0;
+      goal = getD w 6 0;
+    }
+
+-- The action in the four words from b on.
+abbrev pub actionAt : List ℕ → ℕ → Action
+actionAt w b = record { needs = getD w b 0; adds = getD w (b + 1) 0; dels = getD w (b + 2) 0; cost = getD w (b + 3) 0 }
+
+abbrev pub actionOf : List ℕ → ℕ → Action
+actionOf w k = actionAt w (7 + 4 * k)
+
+-- What the code's action says.
+abbrev pub actionRead : ActionInCode → Action
+actionRead a = record { needs = a .needs; adds = a .adds; dels = a .dels; cost = a .cost }
+
+-- The word j places after b.
+abbrev pub cellOf : ℕ → List ℕ → ℕ → ℕ
+cellOf b w j = getD w (b + j) 0
+
+-- The method in the ten words from b on: its head, its count of subtasks, and as many subtasks.
+abbrev pub methodAt : List ℕ → ℕ → Method
+methodAt w b = record { head = getD w b 0; subs = rows (cellOf (b + 2) w) (getD w (b + 1) 0) }
+
+abbrev pub methodOf : List ℕ → ℕ → Method
+methodOf w k = methodAt w (1027 + 10 * k)
+
+abbrev pub tableOf : List ℕ → Table
+tableOf w = record { head = headerOf w; actions = rows (actionOf w) (getD w 1 0); methods = rows (methodOf w) (getD w 3 0) }
+
+-- Words that hold a table that was read.
+pub record Held (w : List ℕ) : Type 0 where
+  pub size : 6147 ≤ length w
+  pub valid : Valid (tableOf w)

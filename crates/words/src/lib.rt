@@ -1,0 +1,78 @@
+// A table in memory, number by number: callers need not know where anything stands.
+ghost use mathlib.Core.Path.{_≡_};
+ghost use Prim.Native.Nat.{_<_};
+ghost use lib.ListN.{length, getD};
+ghost use Rattle.rules.specs.Tables.{factCount, actionCount, taskCount, methodCount, startTask, action, method};
+ghost use Rattle.words.specs.Words.{actionRead, tableOf, Held};
+
+pub fn fact_count(words: &[u64]) -> u64
+    requires { ⌜ Held (now words) ⌝ }
+    ensures { λ r. ⌜ r ≡ factCount (tableOf (now (words .entry))) ⌝ }
+{
+    words[0]
+}
+
+pub fn action_count(words: &[u64]) -> u64
+    requires { ⌜ Held (now words) ⌝ }
+    ensures { λ r. ⌜ r ≡ actionCount (tableOf (now (words .entry))) ⌝ }
+{
+    words[1]
+}
+
+pub fn method_count(words: &[u64]) -> usize
+    requires { ⌜ Held (now words) ⌝ }
+    ensures { λ r. ⌜ r ≡ methodCount (tableOf (now (words .entry))) ⌝ }
+{
+    words[3] as usize
+}
+
+pub fn start_task(words: &[u64]) -> u64
+    requires { ⌜ Held (now words) ⌝ }
+    ensures { λ r. ⌜ r ≡ startTask (tableOf (now (words .entry))) ⌝ }
+{
+    words[4]
+}
+
+// One action, as the table has it.
+pub struct Action {
+    pub needs: u64,
+    pub adds: u64,
+    pub dels: u64,
+    pub cost: u64,
+}
+
+pub fn action_at(words: &[u64], k: usize) -> Action
+    requires { ⌜ Held (now words) × (k < actionCount (tableOf (now words))) ⌝ }
+    ensures { λ r. ⌜ actionRead r ≡ action (tableOf (now (words .entry))) k ⌝ }
+{
+    let b = 7 + 4 * k;
+    Action {
+        needs: words[b],
+        adds: words[b + 1],
+        dels: words[b + 2],
+        cost: words[b + 3],
+    }
+}
+
+pub fn head_of(words: &[u64], k: usize) -> usize
+    requires { ⌜ Held (now words) × (k < methodCount (tableOf (now words))) ⌝ }
+    ensures { λ r. ⌜ r ≡ method (tableOf (now (words .entry))) k .head ⌝ }
+{
+    words[1027 + 10 * k] as usize
+}
+
+// How many subtasks method k has.
+pub fn width_of(words: &[u64], k: usize) -> usize
+    requires { ⌜ Held (now words) × (k < methodCount (tableOf (now words))) ⌝ }
+    ensures { λ r. ⌜ r ≡ length (method (tableOf (now (words .entry))) k .subs) ⌝ }
+{
+    words[1027 + 10 * k + 1] as usize
+}
+
+pub fn subtask(words: &[u64], k: usize, j: usize) -> usize
+    requires { ⌜ Held (now words) × (k < methodCount (tableOf (now words))) × (j < length (method (tableOf (now words)) k .subs)) ⌝ }
+    ensures { λ r. ⌜ r ≡ getD (method (tableOf (now (words .entry))) k .subs) j 0 ⌝ }
+{
+    let b = 1027 + 10 * k + 2;
+    words[b + j] as usize
+}
