@@ -10,3 +10,4 @@ pub mod StepBytes
 pub mod Demand3
 pub mod Outcomes
 pub mod Examples
+pub mod Listing
