@@ -1,3 +1,4 @@
 pub mod ListLaws
+pub mod CountLaws
 pub mod NumberLaws
 pub mod TableLaws

@@ -1,0 +1,97 @@
+-- How many operators and sections there are.
+use mathlib.Core.Path.{_≡_, refl, sym, ap, ap₂, _∙_}
+use mathlib.Core.Bool.{Bool, true, false, cond}
+use mathlib.Core.List.{List, [], _∷_, _++_, map}
+use Prim.Native.Nat.{ℕ, zero, suc, _+_, _-_, _*_, _≤_, _<_}
+use native.Mathlib.Nat.{mul-comm, mul-le-mul-right}
+use native.Mathlib.Omega.{arith}
+use borrow.Author.Tests.{lt-ltb, ne-eqb}
+use lib.Dec.{ltb, eqb}
+use lib.ListN.{length, length-append, length-map}
+use Rattle.rules.specs.Lists.{rows, upto, sumTo}
+use Rattle.rules.specs.Tables.{Table, actionCount, methodCount, factCount, method}
+use Rattle.rules.specs.Progression.{Step, act, mth, leading, prefix, remain}
+use Rattle.rules.specs.Operators.{Operator, joined, highest, positions, risingFrom1, operatorsOf}
+use Rattle.rules.specs.Sections.{variableCount, variableText, sectionsOf}
+use Rattle.laws.specs.Valid.{Valid}
+use Rattle.laws.proofs.ListLaws.{rows-length, upto-length, sum-same, sum-even, sum-most}
+
+leading-short : (a : ℕ) (xs : List ℕ) → length (leading a xs) ≤ length xs
+leading-short a [] = omega arith
+leading-short a (x ∷ xs) = go (ltb x a) (leading-short a xs)
+  where
+    go : (c : Bool) → length (leading a xs) ≤ length xs → length (cond c (x ∷ leading a xs) []) ≤ suc (length xs)
+    go true h = omega arith
+    go false h = omega arith
+
+-- A prefix is no longer than its method.
+pub prefix-short : (f : ℕ) (t : Table) (k : ℕ) → length (prefix f t k) ≤ length (method t k .subs)
+prefix-short zero t k = omega arith
+prefix-short (suc f) t k = leading-short (actionCount t) (method t k .subs)
+
+module _ (f : ℕ) (t : Table) (b k : ℕ) where
+  pub action-positions : k < actionCount t → positions f t b (act k) ≡ b
+  unfolding positions
+  action-positions l = rw (lt-ltb k (actionCount t) l)
+
+  pub method-positions : k < methodCount t → positions f t b (mth k) ≡ cond (joined f t (mth k) .dead) 0 (highest b (remain f t k))
+  unfolding positions
+  method-positions l = rw (lt-ltb k (methodCount t) l)
+
+highest-low : (b r : ℕ) → highest b r ≤ b
+highest-low b zero = omega arith
+highest-low b (suc r) = rw (ne-eqb (suc r) 0 (omega arith)) (omega arith)
+
+-- No method has more positions than the bound.
+pub method-positions-low : (f : ℕ) (t : Table) (b k : ℕ) → positions f t b (mth k) ≤ b
+unfolding positions
+method-positions-low f t b k = go (ltb k (methodCount t)) (joined f t (mth k) .dead)
+  where
+    go : (c d : Bool) → cond c (cond d 0 (highest b (remain f t k))) 0 ≤ b
+    go true true = omega arith
+    go true false = highest-low b (remain f t k)
+    go false d = omega arith
+
+pub methods-low : (f : ℕ) (t : Table) (b n : ℕ) → sumTo (λ k. positions f t b (mth k)) n ≤ b * n
+methods-low f t b n = sum-most (λ k. positions f t b (mth k)) b (method-positions-low f t b) n
+
+-- 64 positions for each of 255 actions and 512 methods.
+pub few-operators : (f : ℕ) (t : Table) (b n : ℕ) → Valid t → b ≤ 64 → n ≤ methodCount t
+    → actionCount t * b + sumTo (λ k. positions f t b (mth k)) n ≤ 49088
+few-operators f t b n v h l =
+    omega (
+      arith,
+      mul-le-mul-right b (v .head .actions),
+      methods-low f t b n,
+      mul-le-mul-right n h,
+      v .head .methods,
+    )
+
+kind-length : (f : ℕ) (t : Table) (b : ℕ) (kind : ℕ → Step) (n : ℕ)
+    → length (upto (λ k. risingFrom1 (kind k) (positions f t b (kind k))) n) ≡ sumTo (λ k. positions f t b (kind k)) n
+kind-length f t b kind n =
+    upto-length (λ k. risingFrom1 (kind k) (positions f t b (kind k))) n
+    ∙ sum-same (λ k. length (risingFrom1 (kind k) (positions f t b (kind k)))) (λ k. positions f t b (kind k)) n
+    (λ k l. rows-length (λ i. record { what = kind k; at = suc i }) (positions f t b (kind k)))
+
+-- b operators for each action, and the positions of each method.
+pub operators-length : (f : ℕ) (t : Table) (b : ℕ)
+    → length (operatorsOf f t b) ≡ actionCount t * b + sumTo (λ k. positions f t b (mth k)) (methodCount t)
+unfolding operatorsOf
+operators-length f t b =
+    length-append (upto (λ k. risingFrom1 (act k) (positions f t b (act k))) (actionCount t)) _
+    ∙ ap₂ _+_
+    (kind-length f t b act (actionCount t)
+    ∙ sum-same (λ k. positions f t b (act k)) (λ _. b) (actionCount t) (λ k l. action-positions f t b k l)
+    ∙ sum-even b (actionCount t)
+    ∙ mul-comm b (actionCount t))
+    (kind-length f t b mth (methodCount t))
+
+pub operators-few : (f : ℕ) (t : Table) (b : ℕ) → Valid t → b ≤ 64 → length (operatorsOf f t b) ≤ 49088
+operators-few f t b v h = rw (operators-length f t b) (few-operators f t b (methodCount t) v h (omega arith))
+
+-- One section, one for each variable, one, one for each operator, and one.
+pub sections-length : (f : ℕ) (t : Table) (b : ℕ) → length (sectionsOf f t b) ≡ variableCount t b + length (operatorsOf f t b) + 3
+unfolding sectionsOf
+sections-length f t b =
+    simp (length-append, length-map, rows-length) (omega arith)

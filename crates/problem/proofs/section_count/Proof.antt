@@ -1,0 +1,46 @@
+use mathlib.Core.Path.{_≡_}
+use native.Mathlib.Omega.{arith}
+use borrow.Author.Needs.{needs}
+use Rattle.words.specs.Words.{tableOf}
+use Rattle.laws.proofs.CountLaws.{operators-few, sections-length}
+use Rattle.problem.proofs.section_count.Statement.{statement}
+use Rattle.problem.proofs.section_count.Tie as tie
+
+fact-count-requires : tie.Need-fact-count-requires
+fact-count-requires c κs = search needs
+
+add-variables : tie.Need-add-variables
+add-variables c = search needs
+
+add-variables-2 : tie.Need-add-variables-2
+add-variables-2 c = search needs
+
+operator-count-requires : tie.Need-operator-count-requires
+operator-count-requires c κs = search needs
+
+add-result : tie.Need-add-result
+add-result c =
+    let a = c .before .before .before in
+    omega (arith, operators-few (a .args .form) (tableOf (a .args .words .now)) (a .args .bound) (a .pre .0 .valid) (a .pre .1))
+
+add-result-2 : tie.Need-add-result-2
+add-result-2 c =
+    let a = c .before .before .before in
+    omega (arith, operators-few (a .args .form) (tableOf (a .args .words .now)) (a .args .bound) (a .pre .0 .valid) (a .pre .1))
+
+returns : tie.Need-returns
+returns c =
+    let a = c .before .before .before .args in
+    omega (arith, sections-length (a .form) (tableOf (a .words .now)) (a .bound))
+
+pub section-count-spec : {M : Type 1} → statement M
+section-count-spec =
+    tie.close
+    (tie.spec
+    fact-count-requires
+    add-variables
+    add-variables-2
+    operator-count-requires
+    add-result
+    add-result-2
+    returns)

@@ -1,0 +1,161 @@
+-- Laws of words that are stored, of a row of readings, and of the two together in a loop.
+use mathlib.Core.Path.{_≡_, refl, ap, sym, subst, _∙_}
+use mathlib.Core.List.{List, [], _∷_, _++_, append-assoc}
+use Prim.Native.Nat.{ℕ, zero, suc, _+_, _*_, _≤_, _<_}
+use native.Mathlib.Nat.{add-zero, eq-or-lt-of-le, le-of-suc-le-suc}
+use native.Mathlib.Numerals.{add-one, towards-suc}
+use native.Mathlib.Omega.{arith}
+use mathlib.Core.Logic.{⊎-elim}
+use lib.ListN.{length, getD, take, drop, set, List·getD-append}
+use lib.Dec.{lit<}
+use lib.Seq.{take-take, sets, sets-eq, length-take-le, take-at, getD-append-add, getD-take, getD-set-same}
+use Rattle.rules.specs.Readings.{Reading, got, bad, then, many}
+use Rattle.rules.specs.Numbers.{ranged}
+use Rattle.rules.specs.Lists.{rows}
+use Rattle.words.specs.Words.{headerOf, actionAt, actionOf, cellOf, methodAt, methodOf, tableOf}
+use Rattle.rules.specs.Tables.{Header, Action, Method, noMethod, readMethod}
+use Rattle.laws.proofs.ListLaws.{rows-length, rows-at, rows-same}
+use Rattle.laws.proofs.NumberLaws.{ranged-got}
+use Rattle.laws.proofs.TableLaws.{each, many-all}
+use Rattle.table.specs.Answers.{stepOf}
+use Rattle.table.specs.declared.Step.{Step}
+use Rattle.table.specs.declared.Step.the-variants.{Next, Bad}
+
+-- a run of stores from b on: what is held there, and what is kept before
+module _ (w vs : List ℕ) (b : ℕ) (h : b + length vs ≤ length w) where
+  pub held : (i : ℕ) → i < length vs → getD (sets w b vs) (b + i) 0 ≡ getD vs i 0
+  held i k =
+      let t : length (take b w) ≡ b = length-take-le b w (omega arith) in
+      ap (λ (l : List ℕ). getD l (b + i) 0) (sets-eq vs w b h ∙ append-assoc (take b w) vs (drop (b + length vs) w))
+      ∙ ap (λ (n : ℕ). getD (take b w ++ (vs ++ drop (b + length vs) w)) (n + i) 0) (sym t)
+      ∙ getD-append-add (take b w) (vs ++ drop (b + length vs) w) i 0
+      ∙ List·getD-append vs (drop (b + length vs) w) 0 i k
+
+  pub kept : take b (sets w b vs) ≡ take b w
+  kept =
+      ap (take b) (sets-eq vs w b h ∙ append-assoc (take b w) vs (drop (b + length vs) w))
+      ∙ take-at (take b w) (vs ++ drop (b + length vs) w) b (length-take-le b w (omega arith))
+
+-- what stands below b is kept
+pub below : (w w′ : List ℕ) (b : ℕ) → take b w′ ≡ take b w → (i : ℕ) → i < b → getD w′ i 0 ≡ getD w i 0
+below w w′ b q i l = sym (getD-take b w′ i 0 l) ∙ ap (λ (x : List ℕ). getD x i 0) q ∙ getD-take b w i 0 l
+
+-- n readings: one more, and one that fails
+module _ {A : Type 0} (p : ℕ → Reading A) (from : ℕ) where
+  pub many-more : (k : ℕ) {xs : List A} {at : ℕ} {x : A} {next : ℕ} → many p k from ≡ got xs at → p at ≡ got x next → many p (k + 1) from ≡ got (xs ++ (x ∷ [])) next
+  unfolding many
+  many-more k e f = rw (add-one k, e, f)
+
+  stays : (n k : ℕ) {why at : ℕ} → k ≤ n → many p k from ≡ bad why at → many p n from ≡ bad why at
+  unfolding many
+  stays zero k {why} {at} l e = let z : k ≡ 0 = omega arith in subst (λ (m : ℕ). many p m from ≡ bad why at) z e
+  stays (suc n) k {why} {at} l e =
+      ⊎-elim
+      (λ z. subst (λ (m : ℕ). many p m from ≡ bad why at) z e)
+      (λ m. let r : many p n from ≡ bad why at = stays n k (le-of-suc-le-suc m) e in rw r)
+      (eq-or-lt-of-le l)
+
+  pub many-bad : (n k : ℕ) {xs : List A} {at why q : ℕ} → k < n → many p k from ≡ got xs at → p at ≡ bad why q → many p n from ≡ bad why q
+  unfolding many
+  many-bad n k l e f = stays n (suc k) l (rw (e, f))
+
+-- an action that is stored
+pub put-action : (w : List ℕ) (b : ℕ) (a : Action) → b + 4 ≤ length w → (w′ : List ℕ) → w′ ≡ set (set (set (set w b (a .needs)) (b + 1) (a .adds)) (b + 2) (a .dels)) (b + 3) (a .cost) → (take b w′ ≡ take b w) × (actionAt w′ b ≡ a)
+put-action w b a h w′ q =
+    let vs : List ℕ = a .needs ∷ a .adds ∷ a .dels ∷ a .cost ∷ [] in
+    let e : w′ ≡ sets w b vs = q ∙ simp towards-suc in
+    let at : (i : ℕ) → i < 4 → getD w′ (b + i) 0 ≡ getD vs i 0 = λ i l. ap (λ (x : List ℕ). getD x (b + i) 0) e ∙ held w vs b h i l in
+    let at0 : getD w′ b 0 ≡ a .needs = ap (λ (n : ℕ). getD w′ n 0) (sym (add-zero b)) ∙ at 0 (lit< tt) in (
+      ap (take b) e ∙ kept w vs b h,
+      λ i. record { needs = at0 i; adds = at 1 (lit< tt) i; dels = at 2 (lit< tt) i; cost = at 3 (lit< tt) i },
+    )
+
+-- less is kept where more is
+pub kept-less : (w w′ : List ℕ) (a b : ℕ) → a ≤ b → take b w′ ≡ take b w → take a w′ ≡ take a w
+kept-less w w′ a b l q = sym (take-take a b w′ l) ∙ ap (take a) q ∙ take-take a b w l
+
+-- a turn of a loop that reads one more row and leaves the rows before it
+module _ {A : Type 0} (view : List ℕ → ℕ → A) (p : ℕ → Reading A) (from : ℕ) where
+  pub turn : (w w′ : List ℕ) (k : ℕ) {at next : ℕ} → many p k from ≡ got (rows (view w) k) at → p at ≡ got (view w′ k) next → ((j : ℕ) → j < k → view w′ j ≡ view w j) → many p (k + 1) from ≡ got (rows (view w′) (k + 1)) next
+  unfolding rows
+  turn w w′ k {at} {next} e f h =
+      many-more p from k e f ∙ rw (add-one k, rows-same (view w′) (view w) k h)
+
+-- the actions before the k-th are kept
+pub action-kept : (w w′ : List ℕ) (k : ℕ) → take (7 + 4 * k) w′ ≡ take (7 + 4 * k) w → (j : ℕ) → j < k → actionOf w′ j ≡ actionOf w j
+action-kept w w′ k q j l =
+    let at : (i : ℕ) → i < 7 + 4 * k → getD w′ i 0 ≡ getD w i 0 = below w w′ (7 + 4 * k) q in
+    λ i. record { needs = at (7 + 4 * j) (omega arith) i; adds = at (7 + 4 * j + 1) (omega arith) i; dels = at (7 + 4 * j + 2) (omega arith) i; cost = at (7 + 4 * j + 3) (omega arith) i }
+
+-- a word that is stored after j others
+pub cell-stored : (w : List ℕ) (b j v : ℕ) → b + j < length w → cellOf b (set w (b + j) v) j ≡ v
+cell-stored w b j v h = getD-set-same w (b + j) v 0 h
+
+pub cell-kept : (w w′ : List ℕ) (b k : ℕ) → take (b + k) w′ ≡ take (b + k) w → (j : ℕ) → j < k → cellOf b w′ j ≡ cellOf b w j
+cell-kept w w′ b k q j l = below w w′ (b + k) q (b + j) (omega arith)
+
+-- a method's head and count that are stored, under what keeps them
+pub put-method : (w w′ : List ℕ) (b head n : ℕ) → b + 2 ≤ length w → take (b + 2) w′ ≡ take (b + 2) (set (set w b head) (b + 1) n) → (take b w′ ≡ take b w) × (methodAt w′ b ≡ record { head = head; subs = rows (cellOf (b + 2) w′) n })
+put-method w w′ b head n h q =
+    let vs : List ℕ = head ∷ n ∷ [] in
+    let v : List ℕ = set (set w b head) (b + 1) n in
+    let e : v ≡ sets w b vs = simp towards-suc in
+    let at : (i : ℕ) → i < 2 → getD w′ (b + i) 0 ≡ getD vs i 0 = λ i k. below v w′ (b + 2) q (b + i) (omega arith) ∙ ap (λ (x : List ℕ). getD x (b + i) 0) e ∙ held w vs b h i k in
+    let at0 : getD w′ b 0 ≡ head = ap (λ (x : ℕ). getD w′ x 0) (sym (add-zero b)) ∙ at 0 (lit< tt) in
+    let at1 : getD w′ (b + 1) 0 ≡ n = at 1 (lit< tt) in (
+      kept-less v w′ b (b + 2) (omega arith) q ∙ ap (take b) e ∙ kept w vs b h,
+      λ i. record { head = at0 i; subs = rows (cellOf (b + 2) w′) (at1 i) },
+    )
+
+-- a method that was read has at most eight subtasks
+few : (s : List ℕ) (lo hi at : ℕ) (m : Method) (n : ℕ) → readMethod s lo hi at ≡ got m n → length (m .subs) ≤ 8
+unfolding readMethod
+few s lo hi at m n e =
+    each (ranged s lo hi 8 at) _ e λ head p1 e1 g1.
+    each (ranged s 0 8 7 p1) _ g1 λ c p2 e2 g2.
+    each (many (ranged s 0 hi 8) c p2) _ g2 λ subs p3 e3 g3.
+    let q : record { head = head; subs = subs } ≡ m = cc in
+    let r = many-all (ranged s 0 hi 8) p2 (λ x. x ≤ hi) 0 (λ at x n e. ranged-got _ _ _ _ _ e .1) c e3 in
+    omega (arith, r .0, ranged-got _ _ _ _ _ e2 .1, ap (λ (x : Method). length (x .subs)) q)
+
+-- the methods before the k-th were read and are kept
+pub method-kept : (s : List ℕ) (lo hi from : ℕ) (w w′ : List ℕ) (k : ℕ) {at : ℕ} → many (readMethod s lo hi) k from ≡ got (rows (methodOf w) k) at → take (1027 + 10 * k) w′ ≡ take (1027 + 10 * k) w → (j : ℕ) → j < k → methodOf w′ j ≡ methodOf w j
+method-kept s lo hi from w w′ k e q j l =
+    let b : ℕ = 1027 + 10 * j in
+    let n : ℕ = getD w (b + 1) 0 in
+    let at : (i : ℕ) → i < 1027 + 10 * k → getD w′ i 0 ≡ getD w i 0 = below w w′ (1027 + 10 * k) q in
+    let f : length (getD (rows (methodOf w) k) j noMethod .subs) ≤ 8 = many-all (readMethod s lo hi) from (λ m. length (m .subs) ≤ 8) noMethod (few s lo hi) k e .1 j l in
+    let g : length (getD (rows (methodOf w) k) j noMethod .subs) ≡ n = ap (λ (m : Method). length (m .subs)) (rows-at (methodOf w) noMethod k j l) ∙ rows-length (cellOf (b + 2) w) n in
+    let c : rows (cellOf (b + 2) w′) n ≡ rows (cellOf (b + 2) w) n = rows-same (cellOf (b + 2) w′) (cellOf (b + 2) w) n (λ i h. at (b + 2 + i) (omega arith)) in
+    let d : rows (cellOf (b + 2) w′) (getD w′ (b + 1) 0) ≡ rows (cellOf (b + 2) w) n = ap (rows (cellOf (b + 2) w′)) (at (b + 1) (omega arith)) ∙ c in
+    λ i. record { head = at b (omega arith) i; subs = d i }
+
+-- what a step says, carried on
+pub step-map : {A B : Type 0} (f : A → B) (r : Step) (a : A) → then (stepOf r a) (λ x at. got (f x) at) ≡ stepOf r (f a)
+step-map f (Next at) a = refl
+step-map f (Bad why at) a = refl
+
+pub method-got : (s : List ℕ) (lo hi at : ℕ) {head n next from : ℕ} (r : Step) (xs : List ℕ) → ranged s lo hi 8 at ≡ got head next → ranged s 0 8 7 next ≡ got n from → stepOf r xs ≡ many (ranged s 0 hi 8) n from → readMethod s lo hi at ≡ stepOf r (record { head = head; subs = xs })
+unfolding readMethod
+method-got s lo hi at {head} r xs e f g = rw (e, f, ← g) (step-map {B = Method} (λ ys. record { head = head; subs = ys }) r xs)
+
+-- the header that is stored, and that it is kept
+pub put-header : (w : List ℕ) (h : Header) → 7 ≤ length w → (w′ : List ℕ) → w′ ≡ sets w 0 (h .facts ∷ h .actions ∷ h .abstracts ∷ h .methods ∷ h .start ∷ h .init ∷ h .goal ∷ []) → headerOf w′ ≡ h
+put-header w h l w′ q =
+    let vs : List ℕ = h .facts ∷ h .actions ∷ h .abstracts ∷ h .methods ∷ h .start ∷ h .init ∷ h .goal ∷ [] in
+    let at : (i : ℕ) → i < 7 → getD w′ (0 + i) 0 ≡ getD vs i 0 = λ i k. ap (λ (x : List ℕ). getD x (0 + i) 0) q ∙ held w vs 0 l i k in
+    λ i. record { facts = at 0 (lit< tt) i; actions = at 1 (lit< tt) i; abstracts = at 2 (lit< tt) i; methods = at 3 (lit< tt) i; start = at 4 (lit< tt) i; init = at 5 (lit< tt) i; goal = at 6 (lit< tt) i }
+
+pub header-kept : (w w′ : List ℕ) → take 7 w′ ≡ take 7 w → headerOf w′ ≡ headerOf w
+header-kept w w′ q =
+    let at : (i : ℕ) → i < 7 → getD w′ i 0 ≡ getD w i 0 = below w w′ 7 q in
+    λ i. record { facts = at 0 (lit< tt) i; actions = at 1 (lit< tt) i; abstracts = at 2 (lit< tt) i; methods = at 3 (lit< tt) i; start = at 4 (lit< tt) i; init = at 5 (lit< tt) i; goal = at 6 (lit< tt) i }
+
+-- the table that the words hold, from what each part left in them
+pub table-held : (w₁ w₂ w₃ : List ℕ) (h : Header) → headerOf w₁ ≡ h → take 7 w₂ ≡ take 7 w₁ → take 1027 w₃ ≡ take 1027 w₂ → h .actions ≤ 255 → tableOf w₃ ≡ record { head = h; actions = rows (actionOf w₂) (h .actions); methods = rows (methodOf w₃) (h .methods) }
+table-held w₁ w₂ w₃ h e p q l =
+    let hd : headerOf w₃ ≡ h = header-kept w₂ w₃ (kept-less w₂ w₃ 7 1027 (omega arith) q) ∙ header-kept w₁ w₂ p ∙ e in
+    let acts : rows (actionOf w₃) (getD w₃ 1 0) ≡ rows (actionOf w₂) (h .actions) =
+    ap (λ (x : Header). rows (actionOf w₃) (x .actions)) hd
+    ∙ rows-same (actionOf w₃) (actionOf w₂) (h .actions) (action-kept w₂ w₃ (h .actions) (kept-less w₂ w₃ (7 + 4 * h .actions) 1027 (omega arith) q)) in
+    λ i. record { head = hd i; actions = acts i; methods = rows (methodOf w₃) (hd i .methods) }

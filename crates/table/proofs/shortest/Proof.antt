@@ -1,0 +1,30 @@
+use borrow.Author.Tests.{eq-eqb, ne-eqb, lt-ltb, le-ltb}
+use Rattle.rules.specs.Numbers.{sound}
+use borrow.Author.Needs.{needs}
+use Rattle.table.proofs.shortest.Statement.{statement}
+use Rattle.table.proofs.shortest.Tie as tie
+use Rattle.table.proofs.shortest.Reads as reads
+use Rattle.table.proofs.shortest.Lts as lts
+
+returns : tie.Need-returns
+unfolding sound
+returns c = rw (eq-eqb _ _ (c .if1 .taken))
+
+returns-2 : tie.Need-returns-2
+unfolding sound
+returns-2 c = rw (ne-eqb _ _ (c .before .if1 .left), eq-eqb _ _ (c .if2 .taken))
+
+returns-3 : tie.Need-returns-3
+unfolding sound
+returns-3 c = rw (ne-eqb _ _ (c .before .before .if1 .left), ne-eqb _ _ (c .before .if2 .left), lt-ltb _ _ (c .if3 .taken))
+
+returns-4 : tie.Need-returns-4
+unfolding sound
+returns-4 c = rw (ne-eqb _ _ (c .before .before .before .if1 .left), ne-eqb _ _ (c .before .before .if2 .left), le-ltb _ _ (c .before .if3 .left), eq-eqb _ _ (c .if4 .taken))
+
+returns-5 : tie.Need-returns-5
+unfolding sound
+returns-5 c = rw (ne-eqb _ _ (c .before .before .before .if1 .left), ne-eqb _ _ (c .before .before .if2 .left), le-ltb _ _ (c .before .if3 .left), ne-eqb _ _ (c .if4 .left))
+
+pub shortest-spec : {M : Type 1} → statement M
+shortest-spec = tie.close (tie.spec returns returns-2 returns-3 returns-4 returns-5)

@@ -1,0 +1,79 @@
+use mathlib.Core.Path.{_≡_, ap, sym, _∙_}
+use Prim.Native.Nat.{ℕ, _+_, _-_, _<_}
+use native.Mathlib.Omega.{arith}
+use lib.ListN.{length}
+use Rattle.rules.specs.Numbers.{sound}
+use Rattle.rules.specs.Readings.{Reading, got, bad}
+use mathlib.Core.Bool.{Bool, true, false, cond}
+use Rattle.laws.proofs.NumberLaws.{last-below, number-ends, number-long, number-got, sound-room}
+use borrow.Author.Needs.{needs}
+use Rattle.table.proofs.slow.Statement.{statement}
+use Rattle.table.proofs.slow.Tie as tie
+use Rattle.table.proofs.slow.Reads as reads
+use Rattle.table.proofs.slow.Lts as lts
+use Rattle.table.proofs.last.Reads as last-reads
+use Rattle.table.proofs.shortest.Reads as shortest-reads
+use Rattle.table.proofs.value.Reads as value-reads
+use Rattle.table.proofs.wide.Reads as wide-reads
+
+last-requires : tie.Need-last-requires
+last-requires c κs = search needs
+
+returns : tie.Need-returns
+returns c =
+    let a = c .before .before .before .args in
+    sym (number-ends (a .s .now) (a .at) (c .before .last .result) (c .before .last .ensures) (c .if1 .taken))
+
+sub-shortest : tie.Need-sub-shortest
+sub-shortest c = search needs
+
+shared-slice-read-wide : tie.Need-shared-slice-read-wide
+shared-slice-read-wide c = search needs
+
+wide-requires : tie.Need-wide-requires
+wide-requires c κs = search needs
+
+shortest-requires : tie.Need-shortest-requires
+shortest-requires c κs = search needs
+
+value-requires : tie.Need-value-requires
+value-requires c κs =
+    let a = c .before .before .before .before .before .before .before .args in
+    let l = c .before .before .before .before .before .last in
+    let b = last-below (a .s .now) (a .at) (l .result) (l .ensures) (omega arith) in
+    let t : sound (l .result - a .at) (lib.ListN.getD (a .s .now) (l .result) 0) ≡ true = cc in
+    let r = sound-room (l .result - a .at) _ t b in
+    (omega arith, omega arith, b, r .0, r .1)
+
+add-t12 : tie.Need-add-t12
+add-t12 c = search needs
+
+returns-2 : tie.Need-returns-2
+returns-2 c =
+    let a = c .before .before .before .before .before .before .before .before .args in
+    let l = c .before .before .before .before .before .before .last in
+    let t : sound (l .result - a .at) (lib.ListN.getD (a .s .now) (l .result) 0) ≡ true = cc in
+    let g = number-got (a .s .now) (a .at) (l .result) (l .ensures) (omega arith) t in
+    cc
+
+returns-3 : tie.Need-returns-3
+returns-3 c =
+    let a = c .before .before .before .before .before .before .before .args in
+    let l = c .before .before .before .before .before .last in
+    let t : sound (l .result - a .at) (lib.ListN.getD (a .s .now) (l .result) 0) ≡ false = cc in
+    sym (number-long (a .s .now) (a .at) (l .result) (l .ensures) (omega arith) t)
+
+pub slow-spec : {M : Type 1} → statement M
+slow-spec =
+    tie.close
+    (tie.spec
+    last-requires
+    returns
+    sub-shortest
+    shared-slice-read-wide
+    wide-requires
+    shortest-requires
+    value-requires
+    add-t12
+    returns-2
+    returns-3)
