@@ -1,17 +1,17 @@
 -- Demand 3, from bytes: which plans are accepted, the one operator list of a run, what an accepted plan solves, what it expands to.
 use Prim.Native.Nat.{ℕ, _+_, _*_, _≤_, _<_}
-use mathlib.Core.Path.{_≡_, refl, sym, ap, subst, _∙_}
+use mathlib.Core.Path.{_≡_, refl, sym, ap, _∙_}
 use mathlib.Core.Logic.{_↔_}
-use mathlib.Core.Bool.{Bool, not, _&&_}
-use mathlib.Core.List.{List, [], _∷_, _++_, map}
+use mathlib.Core.Bool.{not, _&&_}
+use mathlib.Core.List.{List, [], _∷_, map}
 use native.Mathlib.Omega.{arith}
 use lib.ListN.{length}
 use lib.Dec.{T, leb, le→leb, leb→le}
 use Rattle.rules.specs.Answers.{Answer, answer, after}
 use Rattle.rules.specs.Readings.{Reading, got, bad}
-use Rattle.rules.specs.Tables.{Table, decode, actionCount, methodCount}
+use Rattle.rules.specs.Tables.{Table, decode}
 use Rattle.rules.specs.Progression.{State, Step, act, mth, height, allowed, allAllowed, afterAll, prefix, begin, totalCost}
-use Rattle.rules.specs.Operators.{Operator, company, expand, expandAll, joined}
+use Rattle.rules.specs.Operators.{Operator, expand, expandAll, joined}
 use Rattle.rules.specs.Plans.{Line, oper, linesOf, opersOf, shaped, textsOf}
 use Rattle.rules.specs.Checks.{Tally, accepted, checkLines, stepBytes}
 use Rattle.rules.specs.Refusals.{boundFormed, tableFits, planFits, readOf, withTable, roomFor, checkPlan, expandPlan}
@@ -20,7 +20,7 @@ use Rattle.laws.proofs.TableLaws.{valid}
 use Rattle.theorems.specs.Runs.{Run, CompleteRun, TrueHeights}
 use Rattle.theorems.specs.Solutions.{Solution, actionsOf, summed}
 use Rattle.theorems.specs.Demand.{Given, Accepted, ListOf}
-use Rattle.theorems.specs.StepLists.{Numbered, AllBytes}
+use Rattle.theorems.specs.StepLists.{stepsOf, Numbered, AllBytes}
 use Rattle.theorems.proofs.Tests.{and-l, and-r, and-i, cond-true, refused, check-passed}
 use Rattle.theorems.proofs.Heights.{Known, known}
 use Rattle.theorems.proofs.RunLaws.{run-back}
@@ -28,7 +28,7 @@ use Rattle.theorems.proofs.Acceptance.{sound, complete}
 use Rattle.theorems.proofs.OneList.{operators, unique, exists}
 use Rattle.theorems.proofs.SolutionLaws.{solution, costs}
 use Rattle.theorems.proofs.PlanTexts.{Small, numberOf, lines-of}
-use Rattle.theorems.proofs.StepBytes.{bytes-length, bytes-small}
+use Rattle.theorems.proofs.StepBytes.{bytes-length, bytes-small, read-back}
 
 -- A list of operators, as the lines of a plan.
 opers : (os : List Operator) → opersOf (map oper os) ≡ os
@@ -173,7 +173,7 @@ module _ (living : (f : ℕ) (t : Table) (k : ℕ) (s : State) → T (allAllowed
           let xs = expandAll f t (opersOf (linesOf plan)) in
           (solution f t b xs (q .run .1), q .cost ∙ costs t xs)
 
-      -- (e) It expands to the bytes of its steps, two for each, which are the words of those steps.
+      -- (e) It expands to the bytes of its steps, two for each.
       pub expansion-length : length (stepBytes (expandAll f t (opersOf (linesOf plan)))) ≡ 2 * k
       expansion-length = bytes-length _ ∙ ap (λ (m : ℕ). 2 * m) (sym (accepts plan l c o k .0 e .steps))
 
@@ -185,8 +185,12 @@ module _ (living : (f : ℕ) (t : Table) (k : ℕ) (s : State) → T (allAllowed
           ∙ ap (λ (a : Answer Tally). after a (λ _. roomFor size 0 x)) (sym (checks plan l) ∙ e)
           ∙ cond-true (leb (0 + length x) size) _ _ (le→leb (0 + length x) size (omega (arith, expansion-length)))
 
+      -- (f) Each step fits its word, each byte is one, and the bytes read back as the steps.
       pub steps-numbered : Numbered (expandAll f t (opersOf (linesOf plan)))
       steps-numbered = numbered t table-valid f b 0 (begin t) (expandAll f t (opersOf (linesOf plan))) (accepts plan l c o k .0 e .run .1)
 
       pub expansion-bytes : AllBytes (stepBytes (expandAll f t (opersOf (linesOf plan))))
       expansion-bytes = bytes-small (expandAll f t (opersOf (linesOf plan))) steps-numbered
+
+      pub expansion-back : stepsOf (stepBytes (expandAll f t (opersOf (linesOf plan)))) ≡ expandAll f t (opersOf (linesOf plan))
+      expansion-back = read-back (expandAll f t (opersOf (linesOf plan))) steps-numbered

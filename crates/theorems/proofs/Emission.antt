@@ -1,5 +1,5 @@
 -- Where an operator exists, as laws on numbers.
-use Prim.Native.Nat.{ℕ, zero, suc, _+_, _-_, _≤_, _<_}
+use Prim.Native.Nat.{ℕ, _+_, _-_, _≤_, _<_}
 use mathlib.Core.Logic.{_↔_}
 use mathlib.Core.Path.{_≡_, refl}
 use mathlib.Core.Bool.{Bool, true, false, not, cond}
@@ -64,8 +64,8 @@ module _ (f : ℕ) (t : Table) (b k i : ℕ) where
   pub none-stays : k < methodCount t → T (not (joined f t (mth k) .dead)) → remain f t k ≡ 0
       → T (emitted f t b (record { what = mth k; at = i })) ↔ ((1 ≤ i) × (i ≤ b))
   none-stays m d z = (
-    (λ h. let q = method-emitted .0 h in (q .2, q .3)),
-    (λ h. method-emitted .1 (m, d, h .0, h .1, omega (arith, h .1))),
+    (λ h. let q = method-emitted .0 h in (q .2, omega (arith, q .3))),
+    (λ h. method-emitted .1 (m, d, h .0, omega (arith, h .1), omega (arith, h .1))),
   )
 
   pub some-stay : k < methodCount t → T (not (joined f t (mth k) .dead)) → 0 < remain f t k

@@ -11,7 +11,7 @@ use Rattle.rules.specs.Progression.{Step, act, mth}
 use Rattle.rules.specs.Operators.{Operator}
 use Rattle.rules.specs.Texts.{bytes, digit, digitsF, digits}
 use Rattle.rules.specs.Sections.{nameOf}
-use Rattle.rules.specs.Plans.{Line, oper, isDigit, Digits, read, more, number, position, named, lineOf, linesFrom, linesOf, textOf, textsOf}
+use Rattle.rules.specs.Plans.{oper, isDigit, read, more, number, position, named, lineOf, linesFrom, linesOf, textOf, textsOf}
 use Rattle.theorems.proofs.Tests.{and-l, and-r, and-i, cond-true, cond-false}
 
 a-digit : (x : ℕ) → x < 10 → T (isDigit (48 + x))

@@ -1,12 +1,12 @@
 -- The step list's bytes read back as its steps.
-use Prim.Native.Nat.{ℕ, zero, suc, _+_, _-_, _*_, _/_, _%_, _<_}
+use Prim.Native.Nat.{ℕ, _+_, _-_, _*_, _/_, _%_, _<_}
 use mathlib.Core.Path.{_≡_, refl, sym, ap, _∙_}
 use mathlib.Core.List.{List, [], _∷_}
 use native.Mathlib.Omega.{arith}
 use borrow.Author.Tests.{lt-ltb, le-ltb}
 use lib.ListN.{length}
 use Rattle.rules.specs.Progression.{Step, act, mth}
-use Rattle.rules.specs.Checks.{wordOf, stepBytes}
+use Rattle.rules.specs.Checks.{stepBytes}
 use Rattle.theorems.specs.StepLists.{stepOf, stepsOf, Numbered, AllBytes}
 
 pub bytes-length : (xs : List Step) → length (stepBytes xs) ≡ 2 * length xs
