@@ -1,4 +1,11 @@
+pub mod TestLaws
 pub mod ListLaws
-pub mod CountLaws
 pub mod NumberLaws
 pub mod TableLaws
+pub mod SetLaws
+pub mod JoinLaws
+pub mod JoinedPrefix
+pub mod CountLaws
+pub mod LeastLaws
+pub mod RoundLaws
+pub mod RefusalLaws

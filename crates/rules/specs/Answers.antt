@@ -23,6 +23,10 @@ abbrev pub valueOf : {A : Type 0} → (A → ℕ) → Answer A → ℕ
 valueOf f (answer a) = f a
 valueOf f (refusal number place) = 0
 
+-- The result itself, where it is one number.
+abbrev pub itself : ℕ → ℕ
+itself n = n
+
 -- "Checks run in this order": what passes goes on, what does not is refused.
 abbrev pub check : {A : Type 0} → Bool → ℕ → ℕ → Answer A → Answer A
 check passes number place rest = cond passes rest (refusal number place)

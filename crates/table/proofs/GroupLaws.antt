@@ -1,20 +1,20 @@
 -- A number read group by group from its first on.
 use mathlib.Core.Path.{_≡_, refl, ap, sym, subst, _∙_}
-use mathlib.Core.List.{List, [], _∷_}
+use mathlib.Core.List.{List}
 use mathlib.Core.Bool.{Bool, true, false, cond}
-use Prim.Native.Nat.{ℕ, zero, suc, _+_, _-_, _*_, _%_, _^_, _≤_, _<_}
+use Prim.Native.Nat.{ℕ, suc, _+_, _-_, _*_, _%_, _^_, _≤_, _<_}
 use native.Mathlib.Omega.{arith}
 use native.Mathlib.Numerals.{add-one}
 use native.Mathlib.Nat.{pow-succ', pow-le-pow-right, mul-add, mul-comm, mul-assoc, mul-le-mul-right}
 use borrow.Author.Tests.{lt-ltb, ne-eqb}
-use lib.Dec.{ltb, leb, eqb, lit<}
+use lib.Dec.{eqb, lit<}
 use lib.ListN.{length, drop, getD}
 use lib.Seq.{slice, slice-cons}
 use Rattle.rules.specs.Numbers.{run, spell, sound, readNumber}
-use Rattle.rules.specs.Readings.{Reading, got, bad}
+use Rattle.rules.specs.Readings.{got, bad}
 use Rattle.laws.proofs.NumberLaws.{run-stop, run-more, spell-one, number-got, number-long}
 
--- the first j groups of the number at a place have the top bit set and spell v; p is 128 ^ j
+-- The first j groups of the number at a place have the top bit set and spell v; p is 128 ^ j.
 pub record Begun (s : List ℕ) (at j p v : ℕ) : Type 0 where
   pub power : p ≡ 128 ^ j
   pub small : v < p
@@ -34,7 +34,7 @@ begun s at =
 split : (v p g t : ℕ) → v + p * (g + 128 * t) ≡ v + g * p + p * 128 * t
 split v p g t = omega (arith, mul-add p g (128 * t), mul-comm p g, mul-assoc p 128 t)
 
--- a group more has room below its power
+-- A group more has room below its power.
 pub group-fits : (v p x : ℕ) → v < p → x < 128 → v + x * p < p * 128
 group-fits v p x h k = let m : x ≤ 127 = omega arith in omega (arith, mul-le-mul-right p m)
 
@@ -49,13 +49,13 @@ sound-some j b l h = rw (ne-eqb b 0 (omega arith), lt-ltb j 9 l) (go (eqb j 0))
     go true = refl
     go false = refl
 
+pub sound-empty : (j : ℕ) → 1 ≤ j → sound j 0 ≡ false
+unfolding sound
+sound-empty j h = rw (ne-eqb j 0 (omega arith))
+
 pub sound-last : sound 9 1 ≡ true
 unfolding sound
 sound-last = refl
-
-pub sound-none : sound 1 0 ≡ false
-unfolding sound
-sound-none = refl
 
 module _ {s : List ℕ} {at j p v : ℕ} (b : Begun s at j p v) (h : at + j < length s) where
   pub group-more : 128 ≤ getD s (at + j) 0 → Begun s at (j + 1) (p * 128) (v + getD s (at + j) 0 % 128 * p)
@@ -97,7 +97,7 @@ sound-alone : (b : ℕ) → sound 0 b ≡ true
 unfolding sound
 sound-alone b = refl
 
--- a number of one group, and the first group of a longer one
+-- A number of one group, and the first group of a longer one.
 module _ (s : List ℕ) (at : ℕ) (h : at < length s) where
   pub one-group : getD s at 0 < 128 → readNumber s at ≡ got (getD s at 0) (at + 1)
   one-group k =
@@ -112,7 +112,3 @@ module _ (s : List ℕ) (at : ℕ) (h : at < length s) where
       let g : getD s (at + 0) 0 ≡ getD s at 0 = ap (λ (n : ℕ). getD s n 0) z in
       let v : 0 + getD s (at + 0) 0 % 128 * 1 ≡ getD s at 0 % 128 = omega (arith, g) in
       subst (λ (n : ℕ). Begun s at 1 128 n) v (group-more (begun s at) (omega arith) (omega (arith, g)))
-
-pub sound-empty : (j : ℕ) → 1 ≤ j → sound j 0 ≡ false
-unfolding sound
-sound-empty j h = rw (ne-eqb j 0 (omega arith))

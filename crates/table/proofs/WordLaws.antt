@@ -21,7 +21,7 @@ use Rattle.table.specs.Answers.{stepOf}
 use Rattle.table.specs.declared.Step.{Step}
 use Rattle.table.specs.declared.Step.the-variants.{Next, Bad}
 
--- a run of stores from b on: what is held there, and what is kept before
+-- A run of stores from b on: what is held there, and what is kept before.
 module _ (w vs : List ℕ) (b : ℕ) (h : b + length vs ≤ length w) where
   pub held : (i : ℕ) → i < length vs → getD (sets w b vs) (b + i) 0 ≡ getD vs i 0
   held i k =
@@ -36,11 +36,11 @@ module _ (w vs : List ℕ) (b : ℕ) (h : b + length vs ≤ length w) where
       ap (take b) (sets-eq vs w b h ∙ append-assoc (take b w) vs (drop (b + length vs) w))
       ∙ take-at (take b w) (vs ++ drop (b + length vs) w) b (length-take-le b w (omega arith))
 
--- what stands below b is kept
+-- What stands below b is kept.
 pub below : (w w′ : List ℕ) (b : ℕ) → take b w′ ≡ take b w → (i : ℕ) → i < b → getD w′ i 0 ≡ getD w i 0
 below w w′ b q i l = sym (getD-take b w′ i 0 l) ∙ ap (λ (x : List ℕ). getD x i 0) q ∙ getD-take b w i 0 l
 
--- n readings: one more, and one that fails
+-- A row of readings: one more, and one that fails.
 module _ {A : Type 0} (p : ℕ → Reading A) (from : ℕ) where
   pub many-more : (k : ℕ) {xs : List A} {at : ℕ} {x : A} {next : ℕ} → many p k from ≡ got xs at → p at ≡ got x next → many p (k + 1) from ≡ got (xs ++ (x ∷ [])) next
   unfolding many
@@ -59,7 +59,7 @@ module _ {A : Type 0} (p : ℕ → Reading A) (from : ℕ) where
   unfolding many
   many-bad n k l e f = stays n (suc k) l (rw (e, f))
 
--- an action that is stored
+-- An action that is stored.
 pub put-action : (w : List ℕ) (b : ℕ) (a : Action) → b + 4 ≤ length w → (w′ : List ℕ) → w′ ≡ set (set (set (set w b (a .needs)) (b + 1) (a .adds)) (b + 2) (a .dels)) (b + 3) (a .cost) → (take b w′ ≡ take b w) × (actionAt w′ b ≡ a)
 put-action w b a h w′ q =
     let vs : List ℕ = a .needs ∷ a .adds ∷ a .dels ∷ a .cost ∷ [] in
@@ -70,31 +70,31 @@ put-action w b a h w′ q =
       λ i. record { needs = at0 i; adds = at 1 (lit< tt) i; dels = at 2 (lit< tt) i; cost = at 3 (lit< tt) i },
     )
 
--- less is kept where more is
+-- Less is kept where more is.
 pub kept-less : (w w′ : List ℕ) (a b : ℕ) → a ≤ b → take b w′ ≡ take b w → take a w′ ≡ take a w
 kept-less w w′ a b l q = sym (take-take a b w′ l) ∙ ap (take a) q ∙ take-take a b w l
 
--- a turn of a loop that reads one more row and leaves the rows before it
+-- A turn of a loop that reads one more row and leaves the rows before it.
 module _ {A : Type 0} (view : List ℕ → ℕ → A) (p : ℕ → Reading A) (from : ℕ) where
   pub turn : (w w′ : List ℕ) (k : ℕ) {at next : ℕ} → many p k from ≡ got (rows (view w) k) at → p at ≡ got (view w′ k) next → ((j : ℕ) → j < k → view w′ j ≡ view w j) → many p (k + 1) from ≡ got (rows (view w′) (k + 1)) next
   unfolding rows
   turn w w′ k {at} {next} e f h =
       many-more p from k e f ∙ rw (add-one k, rows-same (view w′) (view w) k h)
 
--- the actions before the k-th are kept
+-- The actions before the k-th are kept.
 pub action-kept : (w w′ : List ℕ) (k : ℕ) → take (7 + 4 * k) w′ ≡ take (7 + 4 * k) w → (j : ℕ) → j < k → actionOf w′ j ≡ actionOf w j
 action-kept w w′ k q j l =
     let at : (i : ℕ) → i < 7 + 4 * k → getD w′ i 0 ≡ getD w i 0 = below w w′ (7 + 4 * k) q in
     λ i. record { needs = at (7 + 4 * j) (omega arith) i; adds = at (7 + 4 * j + 1) (omega arith) i; dels = at (7 + 4 * j + 2) (omega arith) i; cost = at (7 + 4 * j + 3) (omega arith) i }
 
--- a word that is stored after j others
+-- A word that is stored after j others.
 pub cell-stored : (w : List ℕ) (b j v : ℕ) → b + j < length w → cellOf b (set w (b + j) v) j ≡ v
 cell-stored w b j v h = getD-set-same w (b + j) v 0 h
 
 pub cell-kept : (w w′ : List ℕ) (b k : ℕ) → take (b + k) w′ ≡ take (b + k) w → (j : ℕ) → j < k → cellOf b w′ j ≡ cellOf b w j
 cell-kept w w′ b k q j l = below w w′ (b + k) q (b + j) (omega arith)
 
--- a method's head and count that are stored, under what keeps them
+-- A method's head and count that are stored, under what keeps them.
 pub put-method : (w w′ : List ℕ) (b head n : ℕ) → b + 2 ≤ length w → take (b + 2) w′ ≡ take (b + 2) (set (set w b head) (b + 1) n) → (take b w′ ≡ take b w) × (methodAt w′ b ≡ record { head = head; subs = rows (cellOf (b + 2) w′) n })
 put-method w w′ b head n h q =
     let vs : List ℕ = head ∷ n ∷ [] in
@@ -107,7 +107,7 @@ put-method w w′ b head n h q =
       λ i. record { head = at0 i; subs = rows (cellOf (b + 2) w′) (at1 i) },
     )
 
--- a method that was read has at most eight subtasks
+-- A method that was read has at most eight subtasks.
 few : (s : List ℕ) (lo hi at : ℕ) (m : Method) (n : ℕ) → readMethod s lo hi at ≡ got m n → length (m .subs) ≤ 8
 unfolding readMethod
 few s lo hi at m n e =
@@ -118,7 +118,7 @@ few s lo hi at m n e =
     let r = many-all (ranged s 0 hi 8) p2 (λ x. x ≤ hi) 0 (λ at x n e. ranged-got _ _ _ _ _ e .1) c e3 in
     omega (arith, r .0, ranged-got _ _ _ _ _ e2 .1, ap (λ (x : Method). length (x .subs)) q)
 
--- the methods before the k-th were read and are kept
+-- The methods before the k-th were read and are kept.
 pub method-kept : (s : List ℕ) (lo hi from : ℕ) (w w′ : List ℕ) (k : ℕ) {at : ℕ} → many (readMethod s lo hi) k from ≡ got (rows (methodOf w) k) at → take (1027 + 10 * k) w′ ≡ take (1027 + 10 * k) w → (j : ℕ) → j < k → methodOf w′ j ≡ methodOf w j
 method-kept s lo hi from w w′ k e q j l =
     let b : ℕ = 1027 + 10 * j in
@@ -130,7 +130,7 @@ method-kept s lo hi from w w′ k e q j l =
     let d : rows (cellOf (b + 2) w′) (getD w′ (b + 1) 0) ≡ rows (cellOf (b + 2) w) n = ap (rows (cellOf (b + 2) w′)) (at (b + 1) (omega arith)) ∙ c in
     λ i. record { head = at b (omega arith) i; subs = d i }
 
--- what a step says, carried on
+-- What a step says, carried on.
 pub step-map : {A B : Type 0} (f : A → B) (r : Step) (a : A) → then (stepOf r a) (λ x at. got (f x) at) ≡ stepOf r (f a)
 step-map f (Next at) a = refl
 step-map f (Bad why at) a = refl
@@ -139,7 +139,7 @@ pub method-got : (s : List ℕ) (lo hi at : ℕ) {head n next from : ℕ} (r : S
 unfolding readMethod
 method-got s lo hi at {head} r xs e f g = rw (e, f, ← g) (step-map {B = Method} (λ ys. record { head = head; subs = ys }) r xs)
 
--- the header that is stored, and that it is kept
+-- The header that is stored, and that it is kept.
 pub put-header : (w : List ℕ) (h : Header) → 7 ≤ length w → (w′ : List ℕ) → w′ ≡ sets w 0 (h .facts ∷ h .actions ∷ h .abstracts ∷ h .methods ∷ h .start ∷ h .init ∷ h .goal ∷ []) → headerOf w′ ≡ h
 put-header w h l w′ q =
     let vs : List ℕ = h .facts ∷ h .actions ∷ h .abstracts ∷ h .methods ∷ h .start ∷ h .init ∷ h .goal ∷ [] in
@@ -151,7 +151,7 @@ header-kept w w′ q =
     let at : (i : ℕ) → i < 7 → getD w′ i 0 ≡ getD w i 0 = below w w′ 7 q in
     λ i. record { facts = at 0 (lit< tt) i; actions = at 1 (lit< tt) i; abstracts = at 2 (lit< tt) i; methods = at 3 (lit< tt) i; start = at 4 (lit< tt) i; init = at 5 (lit< tt) i; goal = at 6 (lit< tt) i }
 
--- the table that the words hold, from what each part left in them
+-- The table that the words hold, from what each part left in them.
 pub table-held : (w₁ w₂ w₃ : List ℕ) (h : Header) → headerOf w₁ ≡ h → take 7 w₂ ≡ take 7 w₁ → take 1027 w₃ ≡ take 1027 w₂ → h .actions ≤ 255 → tableOf w₃ ≡ record { head = h; actions = rows (actionOf w₂) (h .actions); methods = rows (methodOf w₃) (h .methods) }
 table-held w₁ w₂ w₃ h e p q l =
     let hd : headerOf w₃ ≡ h = header-kept w₂ w₃ (kept-less w₂ w₃ 7 1027 (omega arith) q) ∙ header-kept w₁ w₂ p ∙ e in

@@ -1,4 +1,4 @@
-use mathlib.Core.Path.{_≡_, ap, sym}
+use mathlib.Core.Path.{ap, sym}
 use Prim.Native.Nat.{ℕ, _^_, _-_}
 use native.Mathlib.Omega.{arith}
 use lib.Pow.{pow-pos}

@@ -1,7 +1,7 @@
-use Prim.Native.Nat.{ℕ, _≤_, _<_, _-_, _+_}
+use Prim.Native.Nat.{_<_, _-_, _+_}
 use mathlib.Core.Path.{_≡_}
 use native.Mathlib.Omega.{arith}
-use lib.ListN.{length, getD, drop}
+use lib.ListN.{length, drop}
 use Rattle.rules.specs.Numbers.{run}
 use Rattle.laws.proofs.NumberLaws.{run-end, run-stop, run-more}
 use borrow.Author.Needs.{needs}

@@ -1,7 +1,7 @@
 use mathlib.Core.Path.{_≡_, ap, sym, subst, _∙_}
 use Prim.Native.Nat.{ℕ, _+_, _-_, _*_, _%_, _^_, _≤_, _<_}
 use native.Mathlib.Omega.{arith}
-use lib.ListN.{length, getD}
+use lib.ListN.{getD}
 use Rattle.rules.specs.Numbers.{sound}
 use Rattle.rules.specs.Readings.{got}
 use Rattle.table.proofs.GroupLaws.{Begun, first-group, group-fits, power-fits, group-more, group-last, group-bad, sound-some, sound-last, sound-empty}

@@ -1,10 +1,10 @@
 use mathlib.Core.Path.{_≡_, ap, sym, _∙_}
 use Prim.Native.Nat.{ℕ, _+_, _*_, _%_, _≤_, _<_}
 use native.Mathlib.Omega.{arith}
-use lib.ListN.{length, getD}
+use lib.ListN.{getD}
 use Rattle.rules.specs.Numbers.{sound}
 use Rattle.rules.specs.Readings.{got}
-use Rattle.table.proofs.GroupLaws.{one-group, first-group, group-last, group-bad, sound-some, sound-none}
+use Rattle.table.proofs.GroupLaws.{one-group, first-group, group-last, group-bad, sound-some, sound-empty}
 use borrow.Author.Needs.{needs}
 use Rattle.table.proofs.number.Statement.{statement}
 use Rattle.table.proofs.number.Tie as tie
@@ -45,7 +45,7 @@ returns-2 c =
     let b = first-group s (a .at) (c .before .before .before .before .before .before .before .before .if1 .taken) k in
     let l : getD s (a .at + 1) 0 < 128 = omega (arith, w2 .ensures, c .before .if4 .taken) in
     let z : getD s (a .at + 1) 0 ≡ 0 = sym (w2 .ensures) ∙ c .if5 .taken in
-    sym (group-bad b (c .before .before .before .before .if3 .taken) l (ap (sound 1) z ∙ sound-none))
+    sym (group-bad b (c .before .before .before .before .if3 .taken) l (ap (sound 1) z ∙ sound-empty 1 (omega arith)))
 
 mul-t16 : tie.Need-mul-t16
 mul-t16 c = search needs

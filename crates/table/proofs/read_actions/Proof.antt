@@ -1,16 +1,14 @@
 use Rattle.rules.specs.Tables.{Action, readAction}
-use Rattle.rules.specs.Readings.{Reading, got, bad, many}
-use Rattle.rules.specs.Numbers.{ranged}
+use Rattle.rules.specs.Readings.{got, many}
 use Rattle.table.specs.Answers.{actOf}
 use Rattle.words.specs.Words.{actionOf}
 use Rattle.rules.specs.Lists.{rows}
 use Rattle.table.proofs.AnswerLaws.{via}
 use Rattle.table.proofs.WordLaws.{many-bad, kept-less, turn, action-kept}
 use mathlib.Core.Path.{_≡_, refl, ap, sym, subst, _∙_}
-use Prim.Native.Nat.{ℕ, _≤_, _<_, _-_, _+_, _*_}
+use Prim.Native.Nat.{ℕ, _≤_, _-_, _+_, _*_}
 use native.Mathlib.Omega.{arith}
-use lib.ListN.{length, take, length-set}
-use lib.Seq.{slice}
+use lib.ListN.{length, take}
 use borrow.Author.Needs.{needs}
 use Rattle.table.proofs.read_actions.Statement.{statement}
 use Rattle.table.proofs.read_actions.Tie as tie

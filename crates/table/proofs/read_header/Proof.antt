@@ -1,4 +1,3 @@
-use mathlib.Core.Path.{sym}
 use native.Mathlib.Omega.{arith}
 use Rattle.rules.specs.Tables.{header}
 use Rattle.laws.proofs.NumberLaws.{ranged-got}

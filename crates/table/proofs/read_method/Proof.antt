@@ -1,6 +1,6 @@
-use mathlib.Core.Path.{_≡_, refl, ap, sym, _∙_}
+use mathlib.Core.Path.{refl, ap, sym, _∙_}
 use native.Mathlib.Omega.{arith}
-use lib.ListN.{length, length-set}
+use lib.ListN.{length-set}
 use Rattle.table.specs.Answers.{numOf, stepOf}
 use Rattle.rules.specs.Tables.{readMethod}
 use Rattle.laws.proofs.NumberLaws.{ranged-got}

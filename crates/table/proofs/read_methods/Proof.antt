@@ -1,9 +1,9 @@
 use Rattle.table.specs.declared.Step.{Step}
-use mathlib.Core.Path.{_≡_, refl, ap, sym, subst, _∙_}
-use Prim.Native.Nat.{ℕ, _≤_, _<_, _-_, _+_, _*_}
+use mathlib.Core.Path.{_≡_, refl, sym, subst, _∙_}
+use Prim.Native.Nat.{ℕ, _≤_, _-_, _+_, _*_}
 use native.Mathlib.Omega.{arith}
-use lib.ListN.{length, take, length-set}
-use Rattle.rules.specs.Readings.{Reading, got, bad, many}
+use lib.ListN.{length, take}
+use Rattle.rules.specs.Readings.{got, many}
 use Rattle.rules.specs.Tables.{readMethod}
 use Rattle.words.specs.Words.{methodOf}
 use Rattle.rules.specs.Lists.{rows}

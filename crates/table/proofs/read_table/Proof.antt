@@ -1,7 +1,7 @@
-use mathlib.Core.Path.{_≡_, ap}
+use mathlib.Core.Path.{ap}
 use native.Mathlib.Omega.{arith}
 use borrow.Author.Tests.{lt-ltb, le-ltb}
-use Rattle.rules.specs.Readings.{Reading, got, bad}
+use Rattle.rules.specs.Readings.{got}
 use Rattle.rules.specs.Tables.{Table, decode, closed}
 use Rattle.rules.specs.Lists.{rows}
 use Rattle.words.specs.Words.{actionOf, methodOf}

@@ -1,6 +1,5 @@
 use borrow.Author.Tests.{eq-eqb, ne-eqb, lt-ltb, le-ltb}
 use Rattle.rules.specs.Numbers.{sound}
-use borrow.Author.Needs.{needs}
 use Rattle.table.proofs.shortest.Statement.{statement}
 use Rattle.table.proofs.shortest.Tie as tie
 use Rattle.table.proofs.shortest.Reads as reads

@@ -1,10 +1,8 @@
-use mathlib.Core.Path.{_≡_, ap, sym, _∙_}
-use Prim.Native.Nat.{ℕ, _+_, _-_, _<_}
+use mathlib.Core.Path.{_≡_, sym}
+use Prim.Native.Nat.{_-_}
 use native.Mathlib.Omega.{arith}
-use lib.ListN.{length}
 use Rattle.rules.specs.Numbers.{sound}
-use Rattle.rules.specs.Readings.{Reading, got, bad}
-use mathlib.Core.Bool.{Bool, true, false, cond}
+use mathlib.Core.Bool.{true, false}
 use Rattle.laws.proofs.NumberLaws.{last-below, number-ends, number-long, number-got, sound-room}
 use borrow.Author.Needs.{needs}
 use Rattle.table.proofs.slow.Statement.{statement}

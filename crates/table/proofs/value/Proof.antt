@@ -1,7 +1,7 @@
 use mathlib.Core.Path.{_≡_, ap, sym, subst, _∙_}
 use Prim.Native.Nat.{ℕ, suc, _%_, _≤_, _<_, _-_, _+_, _*_, _^_}
 use native.Mathlib.Omega.{arith}
-use lib.ListN.{length, getD, drop, take}
+use lib.ListN.{length}
 use lib.Seq.{slice}
 use Rattle.rules.specs.Numbers.{spell}
 use Rattle.laws.proofs.NumberLaws.{spell-one, spell-prev, room, room-fits}

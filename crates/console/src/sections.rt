@@ -1,0 +1,42 @@
+// Count the sections of a problem.
+ghost use mathlib.Core.Path.{_≡_};
+ghost use Rattle.rules.specs.Answers.{numberOf, placeOf, valueOf, replyOf, itself};
+ghost use Rattle.rules.specs.Refusals.{countSections};
+use rules::Reply;
+use table::Step;
+
+// In the order of the refusals: bound, form, table.
+fn count(bound: u64, form: u64, table: &[u8]) -> Reply
+    ensures { λ r. ⌜ replyOf r ≡ countSections bound form (now (table .entry)) ⌝ }
+{
+    let why = crate::order::early(bound, form, table.len());
+    if why != 0 {
+        return Reply::Refused(why, 0);
+    }
+    let mut words = [0u64; 6147];
+    match table::read_table(table, &mut words) {
+        Step::Bad(why, at) => Reply::Refused(why, at as u64),
+        Step::Next(_) => Reply::Value(problem::section_count(&words, form, bound)),
+    }
+}
+
+#[no_mangle]
+pub extern "C" fn ildorzhen_sections_number(bound: u64, form: u64, table: &[u8]) -> u64
+    ensures { λ r. ⌜ r ≡ numberOf (countSections bound form (now (table .entry))) ⌝ }
+{
+    crate::reply::number(count(bound, form, table))
+}
+
+#[no_mangle]
+pub extern "C" fn ildorzhen_sections_place(bound: u64, form: u64, table: &[u8]) -> u64
+    ensures { λ r. ⌜ r ≡ placeOf (countSections bound form (now (table .entry))) ⌝ }
+{
+    crate::reply::place(count(bound, form, table))
+}
+
+#[no_mangle]
+pub extern "C" fn ildorzhen_sections_count(bound: u64, form: u64, table: &[u8]) -> u64
+    ensures { λ r. ⌜ r ≡ valueOf itself (countSections bound form (now (table .entry))) ⌝ }
+{
+    crate::reply::value(count(bound, form, table))
+}

@@ -1,0 +1,107 @@
+-- A turn of each loop over bounds.
+use Prim.Native.Nat.{ℕ, zero, suc, _+_, _-_, _≤_, _<_, max}
+use mathlib.Core.Path.{_≡_, refl, sym, ap, ap₂, _∙_}
+use mathlib.Core.Bool.{Bool, true, false, not, _||_}
+use mathlib.Core.List.{List, [], _∷_}
+use native.Mathlib.Omega.{arith}
+use native.Mathlib.Numerals.{add-one}
+use native.Mathlib.Decide.{ℕ-discrete}
+use lib.ListN.{length, getD, set, drop, replicate, length-replicate, drop-of-length-le, length-drop, length-set}
+use lib.Seq.{drop-cons, getD-set-same, getD-set-other}
+use borrow.Author.Tests.{lt-ltb, le-ltb, le-leb, lt-leb}
+use Rattle.rules.specs.Tables.{Table, Method, actionCount, taskCount, startTask, method}
+use Rattle.rules.specs.LeastBounds.{boundOf, rise, methodBound, lowers, improve, round, settled, upTo64}
+use Rattle.laws.specs.Bounds.{Kept}
+use Rattle.laws.proofs.RoundLaws.{settled-more, begins}
+use Rattle.least.specs.Ones.{Ones}
+
+pub left-less : (n j : ℕ) → j < n → n - (j + 1) < n - j
+left-less n j h = omega arith
+
+-- A bound that is there.
+pub bound-in : (v : List ℕ) (c : ℕ) → c < length v → getD v c 0 ≡ boundOf v c
+bound-in [] c h = absurd (omega arith)
+bound-in (x ∷ v) zero h = refl
+bound-in (x ∷ v) (suc c) h = bound-in v c (omega arith)
+
+max-first : (a b r m x : ℕ) → m ≡ max b r → max a m ≡ x → max (max a b) r ≡ x
+max-first a b r m x d e = omega arith
+
+-- The subtask at j rises above those after it.
+pub rise-more : (v ts : List ℕ) (j best x : ℕ) → j < length ts → max best (rise v (drop j ts)) ≡ x
+    → max (max best (boundOf v (getD ts j 0) + (length ts - 1 - j))) (rise v (drop (j + 1) ts)) ≡ x
+rise-more v ts j best x h e =
+    let l : length ts - 1 - j ≡ length (drop (suc j) ts) = omega (arith, length-drop (suc j) ts) in
+    rw (l, add-one) (max-first best _ _ _ x (ap (rise v) (drop-cons ts j 0 h)) e)
+
+pub bound-turn : (v ts : List ℕ) (j best n task r x : ℕ) → n ≡ length ts → j < n → task ≡ getD ts j 0 → task < length v
+    → r ≡ max best (getD v task 0 + (n - 1 - j))
+    → max best (rise v (drop j ts)) ≡ x
+    → max r (rise v (drop (j + 1) ts)) ≡ x
+bound-turn v ts j best n task r x d h e l a i =
+    let s : r ≡ max best (boundOf v (getD ts j 0) + (length ts - 1 - j)) =
+    a ∙ ap₂ (λ (y z : ℕ). max best (y + (z - 1 - j))) (bound-in v task l ∙ ap (boundOf v) e) d
+    in
+    rw s (rise-more v ts j best x (omega arith) i)
+
+pub bound-end : (v ts : List ℕ) (j best x : ℕ) → length ts ≤ j → max best (rise v (drop j ts)) ≡ x → best ≡ x
+bound-end v ts j best x h e = let d : max best 0 ≡ x = rw (drop-of-length-le ts h) at e in omega arith
+
+-- The head's bound is lowered, or stays.
+module _ (v : List ℕ) (m : Method) (head next : ℕ) (h : head ≡ m .head) (n : next ≡ methodBound v m) (l : head < length v) where
+  old : getD v head 0 ≡ boundOf v (m .head)
+  old = bound-in v head l ∙ ap (boundOf v) h
+
+  pub lowered : next < getD v head 0 → (set v head next ≡ improve v m) × (true ≡ lowers v m)
+  lowered i =
+      let q : lowers v m ≡ true = lt-ltb (methodBound v m) (boundOf v (m .head)) (omega (arith, old)) in
+      (rw (q, h, n), sym q)
+
+  pub stayed : getD v head 0 ≤ next → (v ≡ improve v m) × (false ≡ lowers v m)
+  stayed i =
+      let q : lowers v m ≡ false = le-ltb (methodBound v m) (boundOf v (m .head)) (omega (arith, old)) in
+      (rw q, sym q)
+
+-- The starting task's bound, or 0.
+module _ (t : Table) (v : List ℕ) (start : ℕ) (e : start ≡ startTask t) (l : start < length v) where
+  found : getD v start 0 ≡ boundOf v (startTask t)
+  found = bound-in v start l ∙ ap (boundOf v) e
+
+  pub start-low : getD v start 0 ≤ 64 → getD v start 0 ≡ upTo64 (boundOf v (startTask t))
+  start-low h = sym (rw (← found, le-leb (getD v start 0) 64 h))
+
+  pub start-high : 64 < getD v start 0 → 0 ≡ upTo64 (boundOf v (startTask t))
+  start-high h = sym (rw (← found, lt-leb (getD v start 0) 64 h))
+
+-- One more method of a round.
+module _ (t : Table) (v w : List ℕ) (k : ℕ) (e : w ≡ round t v k) where
+  pub round-more : (x : List ℕ) → x ≡ improve w (method t k) → x ≡ round t v (k + 1)
+  round-more x i = i ∙ ap (λ (u : List ℕ). improve u (method t k)) e ∙ ap (round t v) (sym (add-one k))
+
+  pub lowered-more : (b r : Bool) → b ≡ not (settled t v k) → r ≡ lowers w (method t k) → (b || r) ≡ not (settled t v (k + 1))
+  lowered-more b r d i =
+      ap₂ _||_ d (i ∙ ap (λ (u : List ℕ). lowers u (method t k)) e) ∙ settled-more t v k
+      ∙ ap (λ (n : ℕ). not (settled t v n)) (sym (add-one k))
+
+-- One more bound is 1.
+pub ones-more : (old : List ℕ) (i : ℕ) (v : List ℕ) → i < length v → Ones old i v → Ones old (i + 1) (set v i 1)
+ones-more old i v h q =
+    record {
+      size = length-set v i 1 ∙ q .size;
+      low = λ c l. low c l (ℕ-discrete c i);
+      high = λ c l. getD-set-other v i c 1 65 (λ e. omega arith) ∙ q .high c (omega arith);
+    }
+  where
+    low : (c : ℕ) → c < i + 1 → Dec (c ≡ i) → boundOf (set v i 1) c ≡ 1
+    low c l (yes e) = rw (e, getD-set-same v i 1 65 h)
+    low c l (no e) = getD-set-other v i c 1 65 e ∙ q .low c (omega arith)
+
+-- The bounds that the rounds begin with.
+none-known : (n c : ℕ) → boundOf (replicate n 65) c ≡ 65
+none-known zero c = refl
+none-known (suc n) zero = refl
+none-known (suc n) (suc c) = none-known n c
+
+pub ones-kept : (t : Table) (n a : ℕ) (v : List ℕ) → a ≡ actionCount t → taskCount t ≤ n → Ones (replicate n 65) a v → Kept t v
+ones-kept t n a v e l q =
+    begins t v (omega (arith, q .size, length-replicate {A = ℕ} n 65)) (λ c h. q .low c (omega arith)) (λ c h. q .high c (omega arith) ∙ none-known n c)

@@ -1,0 +1,112 @@
+// The least bound of a table in words, found in rounds over its methods.
+ghost use mathlib.Core.Path.{_≡_};
+ghost use mathlib.Core.Bool.{not};
+ghost use Prim.Native.Nat.{_<_, _≤_, max};
+ghost use lib.ListN.{length};
+ghost use lib.Dec.{T};
+ghost use Rattle.rules.specs.Tables.{taskCount, methodCount, startTask, method};
+ghost use Rattle.rules.specs.LeastBounds.{boundOf, methodBound, lowers, improve, round, settled, upTo64, leastBound};
+ghost use Rattle.laws.specs.Bounds.{Kept};
+ghost use Rattle.least.specs.Ones.{Ones};
+ghost use Rattle.words.specs.Words.{tableOf, Held};
+
+fn higher(a: u64, b: u64) -> u64
+    ensures { λ r. ⌜ r ≡ max a b ⌝ }
+{
+    if a < b { b } else { a }
+}
+
+// How high method k's subtasks rise, each above those after it.
+fn method_bound(words: &[u64], k: usize, bounds: &[u8]) -> u64
+    requires { ⌜ Held (now words) × (k < methodCount (tableOf (now words))) × (taskCount (tableOf (now words)) ≤ length (now bounds)) ⌝ }
+    ensures { λ r. ⌜ r ≡ methodBound (now (bounds .entry)) (method (tableOf (now (words .entry))) k) ⌝ }
+{
+    let n = words::width_of(words, k);
+    let mut best: u64 = 1;
+    let mut j = 0;
+    while j < n {
+        let task = words::subtask(words, k, j);
+        let own = bounds[task] as u64;
+        let under = (n - 1 - j) as u64;
+        best = higher(best, own + under);
+        j += 1;
+    }
+    best
+}
+
+// Lowers the bound of method k's head where the method does.
+fn improve_one(words: &[u64], k: usize, bounds: &mut [u8]) -> bool
+    requires { ⌜ Held (now words) × (k < methodCount (tableOf (now words))) × (taskCount (tableOf (now words)) ≤ length (now bounds)) ⌝ }
+    ensures { λ r. ⌜ now (bounds .exit) ≡ improve (now (bounds .entry)) (method (tableOf (now (words .entry))) k) ⌝ }
+    ensures { λ r. ⌜ r ≡ lowers (now (bounds .entry)) (method (tableOf (now (words .entry))) k) ⌝ }
+{
+    let head = words::head_of(words, k);
+    let next = method_bound(words, k, bounds);
+    let old = bounds[head] as u64;
+    if next < old {
+        bounds[head] = next as u8;
+        return true;
+    }
+    false
+}
+
+// Each method in turn; whether one of them lowered a bound.
+fn one_round(words: &[u64], bounds: &mut [u8]) -> bool
+    requires { ⌜ Held (now words) × Kept (tableOf (now words)) (now bounds) ⌝ }
+    ensures { λ r. ⌜ now (bounds .exit) ≡ round (tableOf (now (words .entry))) (now (bounds .entry)) (methodCount (tableOf (now (words .entry)))) ⌝ }
+    ensures { λ r. ⌜ r ≡ not (settled (tableOf (now (words .entry))) (now (bounds .entry)) (methodCount (tableOf (now (words .entry))))) ⌝ }
+{
+    let n = words::method_count(words);
+    let mut lowered = false;
+    let mut k = 0;
+    while k < n {
+        let more = improve_one(words, k, bounds);
+        lowered = lowered | more;
+        k += 1;
+    }
+    lowered
+}
+
+// Rounds until no method lowers a bound.
+fn settle(words: &[u64], bounds: &mut [u8])
+    requires { ⌜ Held (now words) × Kept (tableOf (now words)) (now bounds) ⌝ }
+    ensures { λ r. ⌜ Kept (tableOf (now (words .entry))) (now (bounds .exit)) ⌝ }
+    ensures { λ r. ⌜ T (settled (tableOf (now (words .entry))) (now (bounds .exit)) (methodCount (tableOf (now (words .entry))))) ⌝ }
+{
+    let mut again = true;
+    while again {
+        again = one_round(words, bounds);
+    }
+}
+
+// The first n bounds are 1: an action's is.
+fn put_ones(bounds: &mut [u8], n: usize)
+    requires { ⌜ n ≤ length (now bounds) ⌝ }
+    ensures { λ r. ⌜ Ones (now (bounds .entry)) n (now (bounds .exit)) ⌝ }
+{
+    let mut i = 0;
+    while i < n {
+        bounds[i] = 1;
+        i += 1;
+    }
+}
+
+// The starting task's bound, 0 where none is known.
+fn start_bound(words: &[u64], bounds: &[u8]) -> u64
+    requires { ⌜ Held (now words) × (taskCount (tableOf (now words)) ≤ length (now bounds)) ⌝ }
+    ensures { λ r. ⌜ r ≡ upTo64 (boundOf (now (bounds .entry)) (startTask (tableOf (now (words .entry))))) ⌝ }
+{
+    let start = words::start_task(words) as usize;
+    let bound = bounds[start] as u64;
+    if bound <= 64 { bound } else { 0 }
+}
+
+pub fn least(words: &[u64]) -> u64
+    requires { ⌜ Held (now words) ⌝ }
+    ensures { λ r. ⌜ r ≡ leastBound (tableOf (now (words .entry))) ⌝ }
+{
+    let mut bounds = [65u8; 256];
+    put_ones(&mut bounds, words::action_count(words) as usize);
+    settle(words, &mut bounds);
+    start_bound(words, &bounds)
+}
