@@ -1,20 +1,20 @@
 -- The check accepts exactly the plans whose operators, each at its true height, expand to a complete run.
 use Prim.Native.Nat.{ℕ, suc, _+_}
 use mathlib.Core.Path.{_≡_, sym, ap, subst, _∙_}
-use mathlib.Core.Bool.{not}
-use mathlib.Core.List.{List, [], _∷_, _++_, map}
+use mathlib.Core.List.{List, [], _∷_, _++_}
 use native.Mathlib.Omega.{arith}
 use lib.ListN.{length, length-append}
 use lib.Dec.{T, leb, eqb, eqb→eq, eqb-refl}
 use Rattle.rules.specs.Answers.{valueOf}
 use Rattle.rules.specs.Tables.{Table, goalFacts}
 use Rattle.rules.specs.Facts.{holds}
-use Rattle.rules.specs.Progression.{State, Step, act, mth, isEmpty, allAllowed, height, prefix, totalCost}
-use Rattle.rules.specs.Operators.{expand, expandAll, joined, emitted, applies}
+use Rattle.rules.specs.Progression.{Step, isEmpty, allAllowed, height, totalCost}
+use Rattle.rules.specs.Operators.{expand, expandAll, emitted, applies}
 use Rattle.rules.specs.Plans.{Line, note, oper, other, opersOf, shaped}
 use Rattle.rules.specs.Checks.{Tally, Place, accepted, skip, apply, checkFrom}
 use Rattle.theorems.specs.Runs.{Run, TrueHeights}
-use Rattle.theorems.proofs.Tests.{and-l, and-r, and-i, cond-true, check-passed}
+use Rattle.laws.proofs.TestLaws.{and-l, and-r, and-i}
+use Rattle.theorems.proofs.Tests.{cond-true, check-passed}
 use Rattle.theorems.proofs.RunLaws.{run-over, run-back}
 use Rattle.theorems.proofs.Heights.{emitted-low, low-emitted}
 
@@ -32,32 +32,31 @@ pub record Fulfils (f : ℕ) (t : Table) (b : ℕ) (p : Place) (ls : List Line) 
   pub steps : k ≡ p .steps + length (expandAll f t (opersOf ls))
 
 module _ (f : ℕ) (t : Table) (b : ℕ) where
-  pub complete : (living : (k : ℕ) (s : State) → T (allAllowed t s (map act (prefix f t k))) → T (not (joined f t (mth k) .dead)))
-      → (ls : List Line) (p : Place) (c o k : ℕ) → T (leb (height (p .state)) b) → Fulfils f t b p ls c o k → checkFrom f t b p ls ≡ accepted c o k
-  complete living [] p c o k l q =
+  pub complete : (ls : List Line) (p : Place) (c o k : ℕ) → T (leb (height (p .state)) b) → Fulfils f t b p ls c o k → checkFrom f t b p ls ≡ accepted c o k
+  complete [] p c o k l q =
       let c′ : p .cost ≡ c = omega (arith, q .cost) in
       let o′ : p .operators ≡ o = omega (arith, q .operators) in
       let k′ : p .steps ≡ k = omega (arith, q .steps) in
       cond-true (isEmpty (p .state .stack)) _ _ (q .run .0) ∙ cond-true (holds (goalFacts t) (p .state .facts)) _ _ (q .run .1)
       ∙ (λ i. accepted (c′ i) (o′ i) (k′ i))
-  complete living (note ∷ ls) p c o k l q =
-      complete living ls (skip p) c o k l
+  complete (note ∷ ls) p c o k l q =
+      complete ls (skip p) c o k l
       (record { shape = q .shape; heights = q .heights; run = q .run; cost = q .cost; operators = q .operators; steps = q .steps })
-  complete living (other ∷ ls) p c o k l q = absurd (q .shape)
-  complete living (oper x ∷ ls) p c o k l q =
+  complete (other ∷ ls) p c o k l q = absurd (q .shape)
+  complete (oper x ∷ ls) p c o k l q =
       let s = p .state in
       let r = run-back t f b (x .what) s (expandAll f t (opersOf ls)) (q .run) in
       let true-height : x .at ≡ height s = q .heights .0 in
       let m : T (emitted f t b x) =
       subst (λ (i : ℕ). T (emitted f t b (record { what = x .what; at = i }))) (sym true-height)
-      (low-emitted f t b living (x .what) s l (r .each) (r .low))
+      (low-emitted f t b (x .what) s l (r .each) (r .low))
       in
       let a : T (applies f t s x) =
       and-i (eqb (x .at) (height s)) (allAllowed t s (expand f t x)) (rw true-height (eqb-refl (height s))) (r .each)
       in
       cond-true (emitted f t b x) _ _ m
       ∙ cond-true (applies f t s x) _ _ a
-      ∙ complete living ls (apply f t p x) c o k (r .low)
+      ∙ complete ls (apply f t p x) c o k (r .low)
       (record {
         shape = q .shape;
         heights = q .heights .1;

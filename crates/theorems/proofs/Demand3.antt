@@ -2,7 +2,7 @@
 use Prim.Native.Nat.{ℕ, _+_, _*_, _≤_, _<_}
 use mathlib.Core.Path.{_≡_, refl, sym, ap, _∙_}
 use mathlib.Core.Logic.{_↔_}
-use mathlib.Core.Bool.{not, _&&_}
+use mathlib.Core.Bool.{_&&_}
 use mathlib.Core.List.{List, [], _∷_, map}
 use native.Mathlib.Omega.{arith}
 use lib.ListN.{length}
@@ -10,8 +10,8 @@ use lib.Dec.{T, leb, le→leb, leb→le}
 use Rattle.rules.specs.Answers.{Answer, answer, after}
 use Rattle.rules.specs.Readings.{Reading, got, bad}
 use Rattle.rules.specs.Tables.{Table, decode}
-use Rattle.rules.specs.Progression.{State, Step, act, mth, height, allowed, allAllowed, afterAll, prefix, begin, totalCost}
-use Rattle.rules.specs.Operators.{Operator, expand, expandAll, joined}
+use Rattle.rules.specs.Progression.{State, Step, act, mth, height, allowed, afterAll, begin, totalCost}
+use Rattle.rules.specs.Operators.{Operator, expand, expandAll}
 use Rattle.rules.specs.Plans.{Line, oper, linesOf, opersOf, shaped, textsOf}
 use Rattle.rules.specs.Checks.{Tally, accepted, checkLines, stepBytes}
 use Rattle.rules.specs.Refusals.{boundFormed, tableFits, planFits, readOf, withTable, roomFor, checkPlan, expandPlan}
@@ -21,7 +21,8 @@ use Rattle.theorems.specs.Runs.{Run, CompleteRun, TrueHeights}
 use Rattle.theorems.specs.Solutions.{Solution, actionsOf, summed}
 use Rattle.theorems.specs.Demand.{Given, Accepted, ListOf}
 use Rattle.theorems.specs.StepLists.{stepsOf, Numbered, AllBytes}
-use Rattle.theorems.proofs.Tests.{and-l, and-r, and-i, cond-true, refused, check-passed}
+use Rattle.laws.proofs.TestLaws.{and-l, and-r, and-i}
+use Rattle.theorems.proofs.Tests.{cond-true, refused, check-passed}
 use Rattle.theorems.proofs.Heights.{Known, known}
 use Rattle.theorems.proofs.RunLaws.{run-back}
 use Rattle.theorems.proofs.Acceptance.{sound, complete}
@@ -89,108 +90,107 @@ accepted-given b f s plan c o k e =
     )
     go (bad why at) d a h1 h2 h3 h4 = refused why at a
 
-module _ (living : (f : ℕ) (t : Table) (k : ℕ) (s : State) → T (allAllowed t s (map act (prefix f t k))) → T (not (joined f t (mth k) .dead))) where
-  lines-accepts : (f : ℕ) (t : Table) (b : ℕ) → 1 ≤ b → (ls : List Line) (c o k : ℕ) → (checkLines f t b ls ≡ accepted c o k) ↔ Accepted f t b ls c o k
-  unfolding checkLines
-  lines-accepts f t b some ls c o k = (
-    (λ e. let q = sound f t b ls _ c o k (le→leb 1 b some) e in
-        record {
-          shape = q .shape;
-          heights = q .heights;
-          run = (le→leb 1 b some, q .run);
-          cost = omega (arith, q .cost);
-          operators = omega (arith, q .operators);
-          steps = omega (arith, q .steps);
-        }),
-    (λ q. complete f t b (living f t) ls _ c o k (le→leb 1 b some)
-        (record {
-          shape = q .shape;
-          heights = q .heights;
-          run = q .run .1;
-          cost = omega (arith, q .cost);
-          operators = omega (arith, q .operators);
-          steps = omega (arith, q .steps);
-        })),
-  )
+lines-accepts : (f : ℕ) (t : Table) (b : ℕ) → 1 ≤ b → (ls : List Line) (c o k : ℕ) → (checkLines f t b ls ≡ accepted c o k) ↔ Accepted f t b ls c o k
+unfolding checkLines
+lines-accepts f t b some ls c o k = (
+  (λ e. let q = sound f t b ls _ c o k (le→leb 1 b some) e in
+      record {
+        shape = q .shape;
+        heights = q .heights;
+        run = (le→leb 1 b some, q .run);
+        cost = omega (arith, q .cost);
+        operators = omega (arith, q .operators);
+        steps = omega (arith, q .steps);
+      }),
+  (λ q. complete f t b ls _ c o k (le→leb 1 b some)
+      (record {
+        shape = q .shape;
+        heights = q .heights;
+        run = q .run .1;
+        cost = omega (arith, q .cost);
+        operators = omega (arith, q .operators);
+        steps = omega (arith, q .steps);
+      })),
+)
 
-  module _ {b f : ℕ} {s : List ℕ} {t : Table} {n : ℕ} (g : Given b f s t n) where
-    -- What is in range comes to the check of the plan's lines.
-    in-range : {A : Type 0} (plan : List ℕ) → length plan ≤ 65536 → (rest : Table → Answer A)
-        → boundFormed b f (tableFits s (planFits plan (withTable s rest))) ≡ rest t
-    in-range plan l rest =
-        cond-true (leb 1 b && leb b 64) _ _ (and-i (leb 1 b) (leb b 64) (le→leb 1 b (g .low)) (le→leb b 64 (g .high)))
-        ∙ cond-true (leb f 1) _ _ (le→leb f 1 (g .form))
-        ∙ cond-true (leb (length s) 32768) _ _ (le→leb (length s) 32768 (g .size))
-        ∙ cond-true (leb (length plan) 65536) _ _ (le→leb (length plan) 65536 l)
-        ∙ ap (λ r. after (readOf r) rest) (g .reads)
+module _ {b f : ℕ} {s : List ℕ} {t : Table} {n : ℕ} (g : Given b f s t n) where
+  -- What is in range comes to the check of the plan's lines.
+  in-range : {A : Type 0} (plan : List ℕ) → length plan ≤ 65536 → (rest : Table → Answer A)
+      → boundFormed b f (tableFits s (planFits plan (withTable s rest))) ≡ rest t
+  in-range plan l rest =
+      cond-true (leb 1 b && leb b 64) _ _ (and-i (leb 1 b) (leb b 64) (le→leb 1 b (g .low)) (le→leb b 64 (g .high)))
+      ∙ cond-true (leb f 1) _ _ (le→leb f 1 (g .form))
+      ∙ cond-true (leb (length s) 32768) _ _ (le→leb (length s) 32768 (g .size))
+      ∙ cond-true (leb (length plan) 65536) _ _ (le→leb (length plan) 65536 l)
+      ∙ ap (λ r. after (readOf r) rest) (g .reads)
 
-    checks : (plan : List ℕ) → length plan ≤ 65536 → checkPlan b f s plan ≡ checkLines f t b (linesOf plan)
-    unfolding checkPlan
-    checks plan l = in-range plan l (λ t. checkLines f t b (linesOf plan))
+  checks : (plan : List ℕ) → length plan ≤ 65536 → checkPlan b f s plan ≡ checkLines f t b (linesOf plan)
+  unfolding checkPlan
+  checks plan l = in-range plan l (λ t. checkLines f t b (linesOf plan))
 
-    table-valid : Valid t
-    table-valid = valid s t n (g .reads)
+  table-valid : Valid t
+  table-valid = valid s t n (g .reads)
 
-    -- (a) The check accepts exactly these plans, with these numbers.
-    pub accepts : (plan : List ℕ) → length plan ≤ 65536 → (c o k : ℕ) → (checkPlan b f s plan ≡ accepted c o k) ↔ Accepted f t b (linesOf plan) c o k
-    accepts plan l c o k =
-        let q = lines-accepts f t b (g .low) (linesOf plan) c o k in
-        ((λ e. q .0 (sym (checks plan l) ∙ e)), (λ a. checks plan l ∙ q .1 a))
+  -- (a) The check accepts exactly these plans, with these numbers.
+  pub accepts : (plan : List ℕ) → length plan ≤ 65536 → (c o k : ℕ) → (checkPlan b f s plan ≡ accepted c o k) ↔ Accepted f t b (linesOf plan) c o k
+  accepts plan l c o k =
+      let q = lines-accepts f t b (g .low) (linesOf plan) c o k in
+      ((λ e. q .0 (sym (checks plan l) ∙ e)), (λ a. checks plan l ∙ q .1 a))
 
-    -- (b) Each complete run has exactly one list of operators.
-    pub one-list : (xs : List Step) → CompleteRun t f b xs → (os : List Operator) × ListOf f t xs os × ((os′ : List Operator) → ListOf f t xs os′ → os′ ≡ os)
-    one-list xs r =
-        let q = exists f t table-valid b xs (begin t) (r .1) in (
-          operators f t 0 (begin t) xs,
-          record { heights = q .1; expands = q .0 },
-          (λ os′ l. sym (unique f t os′ (begin t) (l .heights)) ∙ ap (λ (ys : List Step). operators f t 0 (begin t) ys) (l .expands)),
-        )
+  -- (b) Each complete run has exactly one list of operators.
+  pub one-list : (xs : List Step) → CompleteRun t f b xs → (os : List Operator) × ListOf f t xs os × ((os′ : List Operator) → ListOf f t xs os′ → os′ ≡ os)
+  one-list xs r =
+      let q = exists f t table-valid b xs (begin t) (r .1) in (
+        operators f t 0 (begin t) xs,
+        record { heights = q .1; expands = q .0 },
+        (λ os′ l. sym (unique f t os′ (begin t) (l .heights)) ∙ ap (λ (ys : List Step). operators f t 0 (begin t) ys) (l .expands)),
+      )
 
-    -- (c) The text of that list is accepted, with the run's cost, operators and steps.
-    pub run-accepted : (xs : List Step) → CompleteRun t f b xs → (os : List Operator) → ListOf f t xs os → length (textsOf os) ≤ 65536
-        → checkPlan b f s (textsOf os) ≡ accepted (totalCost t xs) (length os) (length xs)
-    run-accepted xs r os h l =
-        let q = h .heights in
-        let e = h .expands in
-        let z : CompleteRun t f b (expandAll f t os) = rw e r in
-        checks (textsOf os) l
-        ∙ ap (checkLines f t b) (lines-of os (small f t b table-valid (g .high) os (begin t) (le→leb 1 b (g .low)) q (z .1)))
-        ∙ lines-accepts f t b (g .low) (map oper os) _ _ _ .1
-        (record {
-          shape = opers-shaped os;
-          heights = rw (opers os) q;
-          run = rw (opers os) z;
-          cost = rw (opers os, e);
-          operators = rw (opers os);
-          steps = rw (opers os, e);
-        })
+  -- (c) The text of that list is accepted, with the run's cost, operators and steps.
+  pub run-accepted : (xs : List Step) → CompleteRun t f b xs → (os : List Operator) → ListOf f t xs os → length (textsOf os) ≤ 65536
+      → checkPlan b f s (textsOf os) ≡ accepted (totalCost t xs) (length os) (length xs)
+  run-accepted xs r os h l =
+      let q = h .heights in
+      let e = h .expands in
+      let z : CompleteRun t f b (expandAll f t os) = rw e r in
+      checks (textsOf os) l
+      ∙ ap (checkLines f t b) (lines-of os (small f t b table-valid (g .high) os (begin t) (le→leb 1 b (g .low)) q (z .1)))
+      ∙ lines-accepts f t b (g .low) (map oper os) _ _ _ .1
+      (record {
+        shape = opers-shaped os;
+        heights = rw (opers os) q;
+        run = rw (opers os) z;
+        cost = rw (opers os, e);
+        operators = rw (opers os);
+        steps = rw (opers os, e);
+      })
 
-    module _ (plan : List ℕ) (l : length plan ≤ 65536) (c o k : ℕ) (e : checkPlan b f s plan ≡ accepted c o k) where
-      -- (d) An accepted plan's actions are a solution, and the cost reported is their summed cost.
-      pub solves : Solution t (actionsOf (expandAll f t (opersOf (linesOf plan)))) × (c ≡ summed t (actionsOf (expandAll f t (opersOf (linesOf plan)))))
-      solves =
-          let q = accepts plan l c o k .0 e in
-          let xs = expandAll f t (opersOf (linesOf plan)) in
-          (solution f t b xs (q .run .1), q .cost ∙ costs t xs)
+  module _ (plan : List ℕ) (l : length plan ≤ 65536) (c o k : ℕ) (e : checkPlan b f s plan ≡ accepted c o k) where
+    -- (d) An accepted plan's actions are a solution, and the cost reported is their summed cost.
+    pub solves : Solution t (actionsOf (expandAll f t (opersOf (linesOf plan)))) × (c ≡ summed t (actionsOf (expandAll f t (opersOf (linesOf plan)))))
+    solves =
+        let q = accepts plan l c o k .0 e in
+        let xs = expandAll f t (opersOf (linesOf plan)) in
+        (solution f t b xs (q .run .1), q .cost ∙ costs t xs)
 
-      -- (e) It expands to the bytes of its steps, two for each.
-      pub expansion-length : length (stepBytes (expandAll f t (opersOf (linesOf plan)))) ≡ 2 * k
-      expansion-length = bytes-length _ ∙ ap (λ (m : ℕ). 2 * m) (sym (accepts plan l c o k .0 e .steps))
+    -- (e) It expands to the bytes of its steps, two for each.
+    pub expansion-length : length (stepBytes (expandAll f t (opersOf (linesOf plan)))) ≡ 2 * k
+    expansion-length = bytes-length _ ∙ ap (λ (m : ℕ). 2 * m) (sym (accepts plan l c o k .0 e .steps))
 
-      pub expansion : (size : ℕ) → 2 * k ≤ size → expandPlan b f s plan size ≡ answer (stepBytes (expandAll f t (opersOf (linesOf plan))))
-      unfolding expandPlan
-      expansion size h =
-          let x = stepBytes (expandAll f t (opersOf (linesOf plan))) in
-          in-range plan l (λ t. after (checkLines f t b (linesOf plan)) (λ _. roomFor size 0 (stepBytes (expandAll f t (opersOf (linesOf plan))))))
-          ∙ ap (λ (a : Answer Tally). after a (λ _. roomFor size 0 x)) (sym (checks plan l) ∙ e)
-          ∙ cond-true (leb (0 + length x) size) _ _ (le→leb (0 + length x) size (omega (arith, expansion-length)))
+    pub expansion : (size : ℕ) → 2 * k ≤ size → expandPlan b f s plan size ≡ answer (stepBytes (expandAll f t (opersOf (linesOf plan))))
+    unfolding expandPlan
+    expansion size h =
+        let x = stepBytes (expandAll f t (opersOf (linesOf plan))) in
+        in-range plan l (λ t. after (checkLines f t b (linesOf plan)) (λ _. roomFor size 0 (stepBytes (expandAll f t (opersOf (linesOf plan))))))
+        ∙ ap (λ (a : Answer Tally). after a (λ _. roomFor size 0 x)) (sym (checks plan l) ∙ e)
+        ∙ cond-true (leb (0 + length x) size) _ _ (le→leb (0 + length x) size (omega (arith, expansion-length)))
 
-      -- (f) Each step fits its word, each byte is one, and the bytes read back as the steps.
-      pub steps-numbered : Numbered (expandAll f t (opersOf (linesOf plan)))
-      steps-numbered = numbered t table-valid f b 0 (begin t) (expandAll f t (opersOf (linesOf plan))) (accepts plan l c o k .0 e .run .1)
+    -- (f) Each step fits its word, each byte is one, and the bytes read back as the steps.
+    pub steps-numbered : Numbered (expandAll f t (opersOf (linesOf plan)))
+    steps-numbered = numbered t table-valid f b 0 (begin t) (expandAll f t (opersOf (linesOf plan))) (accepts plan l c o k .0 e .run .1)
 
-      pub expansion-bytes : AllBytes (stepBytes (expandAll f t (opersOf (linesOf plan))))
-      expansion-bytes = bytes-small (expandAll f t (opersOf (linesOf plan))) steps-numbered
+    pub expansion-bytes : AllBytes (stepBytes (expandAll f t (opersOf (linesOf plan))))
+    expansion-bytes = bytes-small (expandAll f t (opersOf (linesOf plan))) steps-numbered
 
-      pub expansion-back : stepsOf (stepBytes (expandAll f t (opersOf (linesOf plan)))) ≡ expandAll f t (opersOf (linesOf plan))
-      expansion-back = read-back (expandAll f t (opersOf (linesOf plan))) steps-numbered
+    pub expansion-back : stepsOf (stepBytes (expandAll f t (opersOf (linesOf plan)))) ≡ expandAll f t (opersOf (linesOf plan))
+    expansion-back = read-back (expandAll f t (opersOf (linesOf plan))) steps-numbered

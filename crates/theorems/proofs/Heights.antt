@@ -1,15 +1,16 @@
 -- What an operator's steps do to the height, and that an operator is emitted exactly where its end is within the bound.
 use Prim.Native.Nat.{ℕ, zero, suc, _+_, _-_, _≤_, _<_}
 use mathlib.Core.Path.{_≡_, refl}
-use mathlib.Core.Bool.{Bool, true, false, not, cond}
+use mathlib.Core.Bool.{Bool, true, false, cond}
 use mathlib.Core.List.{List, [], _∷_, map, tail}
 use native.Mathlib.Omega.{arith}
 use lib.ListN.{length, length-append}
 use lib.Dec.{T, leb, ltb, leb→le, le→leb, ltb→lt}
 use Rattle.rules.specs.Tables.{Table, actionCount, methodCount, method}
 use Rattle.rules.specs.Progression.{State, Step, act, mth, onTop, fits, enabled, allowed, next, allAllowed, afterAll, height, leading, prefix, remain}
-use Rattle.rules.specs.Operators.{company, joined, emitted}
-use Rattle.theorems.proofs.Tests.{and-l, and-r}
+use Rattle.rules.specs.Operators.{company, emitted}
+use Rattle.laws.proofs.JoinedPrefix.{living}
+use Rattle.laws.proofs.TestLaws.{and-l, and-r}
 use Rattle.theorems.proofs.Emission.{action-emitted, method-emitted}
 
 leading-le : (a : ℕ) (xs : List ℕ) → length (leading a xs) ≤ length xs
@@ -87,22 +88,21 @@ module _ (f : ℕ) (t : Table) (b : ℕ) where
       let q = method-emitted f t b k (height s) .0 e in
       le→leb _ b (omega (arith, ends k s h, q .3, q .4))
 
-  -- An allowed operator that starts and ends within the bound is emitted, if it is not dead.
-  pub low-emitted : (living : (k : ℕ) (s : State) → T (allAllowed t s (map act (prefix f t k))) → T (not (joined f t (mth k) .dead)))
-      → (x : Step) (s : State) → T (leb (height s) b) → T (allAllowed t s (x ∷ map act (company f t x)))
+  -- An allowed operator that starts and ends within the bound is emitted: a dead one is never allowed.
+  pub low-emitted : (x : Step) (s : State) → T (leb (height s) b) → T (allAllowed t s (x ∷ map act (company f t x)))
       → T (leb (height (afterAll t s (x ∷ map act (company f t x)))) b)
       → T (emitted f t b (record { what = x; at = height s }))
-  low-emitted living (act k) s l h e =
+  low-emitted (act k) s l h e =
       let a : T (allowed t s (act k)) = and-l (allowed t s (act k)) _ h in
       action-emitted f t b k (height s) .1 (known t s (act k) a, omega (arith, act-pops t k s a), leb→le _ _ l)
-  low-emitted living (mth k) s l h e =
+  low-emitted (mth k) s l h e =
       let s′ = next t s (mth k) in
       let ks = prefix f t k in
       let a : T (allowed t s (mth k)) = and-l (allowed t s (mth k)) (allAllowed t s′ (map act ks)) h in
       let o = on-top (method t k .head) (s .stack) (and-r (ltb k (methodCount t)) (onTop (method t k .head) (s .stack)) (fits-of t s (mth k) a)) in
       method-emitted f t b k (height s) .1 (
         known t s (mth k) a,
-        living k s′ (and-r (allowed t s (mth k)) (allAllowed t s′ (map act ks)) h),
+        living f t k s′ (and-r (allowed t s (mth k)) (allAllowed t s′ (map act ks)) h),
         omega (arith, o),
         leb→le _ _ l,
         omega (arith, ends k s h, leb→le (height (afterAll t s (mth k ∷ map act ks))) b e),

@@ -10,7 +10,7 @@ use Rattle.rules.specs.Lists.{rows, upto}
 use Rattle.rules.specs.Tables.{Table, actionCount, methodCount}
 use Rattle.rules.specs.Progression.{Step, act, mth}
 use Rattle.rules.specs.Operators.{Operator, positions, emitted, risingFrom1, operatorsOf}
-use Rattle.theorems.proofs.Tests.{and-l, and-r, and-i}
+use Rattle.laws.proofs.TestLaws.{and-l, and-r, and-i}
 use Rattle.theorems.proofs.Emission.{action-emitted, method-emitted}
 
 -- What is in lists made from a number.

@@ -11,7 +11,7 @@ use Rattle.rules.specs.Progression.{State, Step, act, mth, next, afterAll, heig
 use Rattle.rules.specs.Operators.{Operator, company, expand, expandAll}
 use Rattle.laws.specs.Valid.{Valid}
 use Rattle.theorems.specs.Runs.{Run, TrueHeights}
-use Rattle.theorems.proofs.Tests.{and-l, and-r}
+use Rattle.laws.proofs.TestLaws.{and-l, and-r}
 
 -- The operators of some steps: one begins wherever no prefix action is due.
 abbrev pub operators : ℕ → Table → ℕ → State → List Step → List Operator

@@ -12,7 +12,8 @@ use Rattle.rules.specs.Operators.{Operator}
 use Rattle.rules.specs.Texts.{bytes, digit, digitsF, digits}
 use Rattle.rules.specs.Sections.{nameOf}
 use Rattle.rules.specs.Plans.{oper, isDigit, read, more, number, position, named, lineOf, linesFrom, linesOf, textOf, textsOf}
-use Rattle.theorems.proofs.Tests.{and-l, and-r, and-i, cond-true, cond-false}
+use Rattle.laws.proofs.TestLaws.{and-l, and-r, and-i}
+use Rattle.theorems.proofs.Tests.{cond-true, cond-false}
 
 a-digit : (x : ℕ) → x < 10 → T (isDigit (48 + x))
 a-digit x h = and-i (leb 48 (48 + x)) (leb (48 + x) 57) (omega (arith, le→leb)) (omega (arith, le→leb))

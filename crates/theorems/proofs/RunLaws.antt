@@ -7,7 +7,7 @@ use Rattle.rules.specs.Tables.{Table}
 use Rattle.rules.specs.Progression.{State, Step, act, mth, next, allAllowed, afterAll, height, prefix}
 use Rattle.rules.specs.Operators.{company}
 use Rattle.theorems.specs.Runs.{resting, Run}
-use Rattle.theorems.proofs.Tests.{and-l, and-r, and-i}
+use Rattle.laws.proofs.TestLaws.{and-l, and-r, and-i}
 
 -- The steps xs, after which nothing is due, are allowed; the state after them is holds the bound; and the run goes on from there.
 pub record Passed (t : Table) (f b : ℕ) (s : State) (xs ys : List Step) : Type 0 where

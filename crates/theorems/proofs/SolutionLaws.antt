@@ -10,7 +10,7 @@ use Rattle.rules.specs.Facts.{holds}
 use Rattle.rules.specs.Progression.{State, Step, act, mth, begin, totalCost, enabled}
 use Rattle.theorems.specs.Runs.{Run}
 use Rattle.theorems.specs.Solutions.{Refines, same, split, Executable, result, summed, Solution, actionsOf}
-use Rattle.theorems.proofs.Tests.{and-l, and-r}
+use Rattle.laws.proofs.TestLaws.{and-l, and-r}
 
 module _ (f : ℕ) (t : Table) (b : ℕ) where
   refined : (xs : List Step) (o fa : ℕ) (st done : List ℕ) → Run t f b o (record { facts = fa; stack = st }) xs

@@ -1,22 +1,10 @@
--- Laws of tests.
+-- Laws of tests that choose an answer.
 use Prim.Native.Nat.{ℕ}
 use mathlib.Core.Path.{_≡_, refl}
-use mathlib.Core.Bool.{Bool, true, false, _&&_, not, cond}
+use mathlib.Core.Bool.{Bool, true, false, not, cond}
 use native.Mathlib.Omega.{arith}
 use lib.Dec.{T}
 use Rattle.rules.specs.Answers.{Answer, answer, refusal, check}
-
-pub and-l : (a b : Bool) → T (a && b) → T a
-and-l true b h = tt
-and-l false b h = h
-
-pub and-r : (a b : Bool) → T (a && b) → T b
-and-r true b h = h
-and-r false b h = absurd h
-
-pub and-i : (a b : Bool) → T a → T b → T (a && b)
-and-i true b h k = k
-and-i false b h k = h
 
 pub cond-true : {A : Type 0} (x : Bool) (a b : A) → T x → cond x a b ≡ a
 cond-true true a b h = refl
