@@ -1,0 +1,196 @@
+-- Demand 3, from bytes: which plans are accepted, the one operator list of a run, what an accepted plan solves, what it expands to.
+use Prim.Native.Nat.{ℕ, _+_, _*_, _≤_, _<_}
+use mathlib.Core.Path.{_≡_, refl, sym, ap, _∙_}
+use mathlib.Core.Logic.{_↔_}
+use mathlib.Core.Bool.{_&&_}
+use mathlib.Core.List.{List, [], _∷_, map}
+use native.Mathlib.Omega.{arith}
+use lib.ListN.{length}
+use lib.Dec.{T, leb, le→leb, leb→le}
+use Rattle.rules.specs.Answers.{Answer, answer, after}
+use Rattle.rules.specs.Readings.{Reading, got, bad}
+use Rattle.rules.specs.Tables.{Table, decode}
+use Rattle.rules.specs.Progression.{State, Step, act, mth, height, allowed, afterAll, begin, totalCost}
+use Rattle.rules.specs.Operators.{Operator, expand, expandAll}
+use Rattle.rules.specs.Plans.{Line, oper, linesOf, opersOf, shaped, textsOf}
+use Rattle.rules.specs.Checks.{Tally, accepted, checkLines, stepBytes}
+use Rattle.rules.specs.Refusals.{boundFormed, tableFits, planFits, readOf, withTable, roomFor, checkPlan, expandPlan}
+use Rattle.laws.specs.Valid.{Valid}
+use Rattle.laws.proofs.TableLaws.{valid}
+use Rattle.theorems.specs.Runs.{Run, CompleteRun, TrueHeights}
+use Rattle.theorems.specs.Solutions.{Solution, actionsOf, summed}
+use Rattle.theorems.specs.Demand.{Given, Accepted, ListOf}
+use Rattle.theorems.specs.StepLists.{stepsOf, Numbered, AllBytes}
+use Rattle.laws.proofs.TestLaws.{and-l, and-r, and-i}
+use Rattle.theorems.proofs.Tests.{cond-true, refused, check-passed}
+use Rattle.theorems.proofs.Heights.{Known, known}
+use Rattle.theorems.proofs.RunLaws.{run-back}
+use Rattle.theorems.proofs.Acceptance.{sound, complete}
+use Rattle.theorems.proofs.OneList.{operators, unique, exists}
+use Rattle.theorems.proofs.SolutionLaws.{solution, costs}
+use Rattle.theorems.proofs.PlanTexts.{Small, numberOf, lines-of}
+use Rattle.theorems.proofs.StepBytes.{bytes-length, bytes-small, read-back}
+
+-- A list of operators, as the lines of a plan.
+opers : (os : List Operator) → opersOf (map oper os) ≡ os
+opers [] = refl
+opers (o ∷ os) = ap (λ (l : List Operator). o ∷ l) (opers os)
+
+opers-shaped : (os : List Operator) → T (shaped (map oper os))
+opers-shaped [] = tt
+opers-shaped (o ∷ os) = opers-shaped os
+
+-- The operators of a run have numbers of at most three digits.
+known-small : (t : Table) → Valid t → (x : Step) → Known t x → numberOf x < 1000
+known-small t v (act k) h = omega (arith, v .head .actions)
+known-small t v (mth k) h = omega (arith, v .head .methods)
+
+small : (f : ℕ) (t : Table) (b : ℕ) → Valid t → b ≤ 64 → (os : List Operator) (s : State) → T (leb (height s) b) → TrueHeights f t s os
+    → Run t f b 0 s (expandAll f t os)
+    → Small os
+small f t b v l [] s e h r = tt
+small f t b v l (o ∷ os) s e h r =
+    let q = run-back t f b (o .what) s (expandAll f t os) r in (
+      known-small t v (o .what) (known t s (o .what) (and-l (allowed t s (o .what)) _ (q .each))),
+      omega (arith, leb→le (height s) b e, h .0),
+      small f t b v l os (afterAll t s (expand f t o)) (q .low) (h .1) (q .rest),
+    )
+
+-- The steps of a run are the table's, so each fits its word.
+numbered : (t : Table) → Valid t → (f b o : ℕ) (s : State) (xs : List Step) → Run t f b o s xs → Numbered xs
+numbered t v f b o s [] r = tt
+numbered t v f b o s (act k ∷ xs) r = let q = known t s (act k) (r .0) in (omega (arith, v .head .actions), numbered t v f b _ _ xs (r .2))
+numbered t v f b o s (mth k ∷ xs) r = let q = known t s (mth k) (r .0) in (omega (arith, v .head .methods), numbered t v f b _ _ xs (r .2))
+
+-- What is accepted was in range, and its table was read.
+pub accepted-given : (b f : ℕ) (s plan : List ℕ) (c o k : ℕ) → checkPlan b f s plan ≡ accepted c o k
+    → (t : Table) × (n : ℕ) × Given b f s t n × (length plan ≤ 65536)
+unfolding checkPlan
+accepted-given b f s plan c o k e =
+    let q1 = check-passed (leb 1 b && leb b 64) 1 0 _ e in
+    let q2 = check-passed (leb f 1) 2 0 _ (q1 .1) in
+    let q3 = check-passed (leb (length s) 32768) 3 0 _ (q2 .1) in
+    let q4 = check-passed (leb (length plan) 65536) 4 0 _ (q3 .1) in
+    go (decode s) refl (q4 .1) (q1 .0) (q2 .0) (q3 .0) (q4 .0)
+  where
+    go : (r : Reading Table) → decode s ≡ r → after (readOf r) (λ t. checkLines f t b (linesOf plan)) ≡ accepted c o k
+        → T (leb 1 b && leb b 64) → T (leb f 1) → T (leb (length s) 32768) → T (leb (length plan) 65536)
+        → (t : Table) × (n : ℕ) × Given b f s t n × (length plan ≤ 65536)
+    go (got t n) d a h1 h2 h3 h4 = (
+      t,
+      n,
+      record {
+        low = leb→le 1 b (and-l (leb 1 b) (leb b 64) h1);
+        high = leb→le b 64 (and-r (leb 1 b) (leb b 64) h1);
+        form = leb→le f 1 h2;
+        size = leb→le (length s) 32768 h3;
+        reads = d;
+      },
+      leb→le (length plan) 65536 h4,
+    )
+    go (bad why at) d a h1 h2 h3 h4 = refused why at a
+
+lines-accepts : (f : ℕ) (t : Table) (b : ℕ) → 1 ≤ b → (ls : List Line) (c o k : ℕ) → (checkLines f t b ls ≡ accepted c o k) ↔ Accepted f t b ls c o k
+unfolding checkLines
+lines-accepts f t b some ls c o k = (
+  (λ e. let q = sound f t b ls _ c o k (le→leb 1 b some) e in
+      record {
+        shape = q .shape;
+        heights = q .heights;
+        run = (le→leb 1 b some, q .run);
+        cost = omega (arith, q .cost);
+        operators = omega (arith, q .operators);
+        steps = omega (arith, q .steps);
+      }),
+  (λ q. complete f t b ls _ c o k (le→leb 1 b some)
+      (record {
+        shape = q .shape;
+        heights = q .heights;
+        run = q .run .1;
+        cost = omega (arith, q .cost);
+        operators = omega (arith, q .operators);
+        steps = omega (arith, q .steps);
+      })),
+)
+
+module _ {b f : ℕ} {s : List ℕ} {t : Table} {n : ℕ} (g : Given b f s t n) where
+  -- What is in range comes to the check of the plan's lines.
+  in-range : {A : Type 0} (plan : List ℕ) → length plan ≤ 65536 → (rest : Table → Answer A)
+      → boundFormed b f (tableFits s (planFits plan (withTable s rest))) ≡ rest t
+  in-range plan l rest =
+      cond-true (leb 1 b && leb b 64) _ _ (and-i (leb 1 b) (leb b 64) (le→leb 1 b (g .low)) (le→leb b 64 (g .high)))
+      ∙ cond-true (leb f 1) _ _ (le→leb f 1 (g .form))
+      ∙ cond-true (leb (length s) 32768) _ _ (le→leb (length s) 32768 (g .size))
+      ∙ cond-true (leb (length plan) 65536) _ _ (le→leb (length plan) 65536 l)
+      ∙ ap (λ r. after (readOf r) rest) (g .reads)
+
+  checks : (plan : List ℕ) → length plan ≤ 65536 → checkPlan b f s plan ≡ checkLines f t b (linesOf plan)
+  unfolding checkPlan
+  checks plan l = in-range plan l (λ t. checkLines f t b (linesOf plan))
+
+  table-valid : Valid t
+  table-valid = valid s t n (g .reads)
+
+  -- (a) The check accepts exactly these plans, with these numbers.
+  pub accepts : (plan : List ℕ) → length plan ≤ 65536 → (c o k : ℕ) → (checkPlan b f s plan ≡ accepted c o k) ↔ Accepted f t b (linesOf plan) c o k
+  accepts plan l c o k =
+      let q = lines-accepts f t b (g .low) (linesOf plan) c o k in
+      ((λ e. q .0 (sym (checks plan l) ∙ e)), (λ a. checks plan l ∙ q .1 a))
+
+  -- (b) Each complete run has exactly one list of operators.
+  pub one-list : (xs : List Step) → CompleteRun t f b xs → (os : List Operator) × ListOf f t xs os × ((os′ : List Operator) → ListOf f t xs os′ → os′ ≡ os)
+  one-list xs r =
+      let q = exists f t table-valid b xs (begin t) (r .1) in (
+        operators f t 0 (begin t) xs,
+        record { heights = q .1; expands = q .0 },
+        (λ os′ l. sym (unique f t os′ (begin t) (l .heights)) ∙ ap (λ (ys : List Step). operators f t 0 (begin t) ys) (l .expands)),
+      )
+
+  -- (c) The text of that list is accepted, with the run's cost, operators and steps.
+  pub run-accepted : (xs : List Step) → CompleteRun t f b xs → (os : List Operator) → ListOf f t xs os → length (textsOf os) ≤ 65536
+      → checkPlan b f s (textsOf os) ≡ accepted (totalCost t xs) (length os) (length xs)
+  run-accepted xs r os h l =
+      let q = h .heights in
+      let e = h .expands in
+      let z : CompleteRun t f b (expandAll f t os) = rw e r in
+      checks (textsOf os) l
+      ∙ ap (checkLines f t b) (lines-of os (small f t b table-valid (g .high) os (begin t) (le→leb 1 b (g .low)) q (z .1)))
+      ∙ lines-accepts f t b (g .low) (map oper os) _ _ _ .1
+      (record {
+        shape = opers-shaped os;
+        heights = rw (opers os) q;
+        run = rw (opers os) z;
+        cost = rw (opers os, e);
+        operators = rw (opers os);
+        steps = rw (opers os, e);
+      })
+
+  module _ (plan : List ℕ) (l : length plan ≤ 65536) (c o k : ℕ) (e : checkPlan b f s plan ≡ accepted c o k) where
+    -- (d) An accepted plan's actions are a solution, and the cost reported is their summed cost.
+    pub solves : Solution t (actionsOf (expandAll f t (opersOf (linesOf plan)))) × (c ≡ summed t (actionsOf (expandAll f t (opersOf (linesOf plan)))))
+    solves =
+        let q = accepts plan l c o k .0 e in
+        let xs = expandAll f t (opersOf (linesOf plan)) in
+        (solution f t b xs (q .run .1), q .cost ∙ costs t xs)
+
+    -- (e) It expands to the bytes of its steps, two for each.
+    pub expansion-length : length (stepBytes (expandAll f t (opersOf (linesOf plan)))) ≡ 2 * k
+    expansion-length = bytes-length _ ∙ ap (λ (m : ℕ). 2 * m) (sym (accepts plan l c o k .0 e .steps))
+
+    pub expansion : (size : ℕ) → 2 * k ≤ size → expandPlan b f s plan size ≡ answer (stepBytes (expandAll f t (opersOf (linesOf plan))))
+    unfolding expandPlan
+    expansion size h =
+        let x = stepBytes (expandAll f t (opersOf (linesOf plan))) in
+        in-range plan l (λ t. after (checkLines f t b (linesOf plan)) (λ _. roomFor size 0 (stepBytes (expandAll f t (opersOf (linesOf plan))))))
+        ∙ ap (λ (a : Answer Tally). after a (λ _. roomFor size 0 x)) (sym (checks plan l) ∙ e)
+        ∙ cond-true (leb (0 + length x) size) _ _ (le→leb (0 + length x) size (omega (arith, expansion-length)))
+
+    -- (f) Each step fits its word, each byte is one, and the bytes read back as the steps.
+    pub steps-numbered : Numbered (expandAll f t (opersOf (linesOf plan)))
+    steps-numbered = numbered t table-valid f b 0 (begin t) (expandAll f t (opersOf (linesOf plan))) (accepts plan l c o k .0 e .run .1)
+
+    pub expansion-bytes : AllBytes (stepBytes (expandAll f t (opersOf (linesOf plan))))
+    expansion-bytes = bytes-small (expandAll f t (opersOf (linesOf plan))) steps-numbered
+
+    pub expansion-back : stepsOf (stepBytes (expandAll f t (opersOf (linesOf plan)))) ≡ expandAll f t (opersOf (linesOf plan))
+    expansion-back = read-back (expandAll f t (opersOf (linesOf plan))) steps-numbered

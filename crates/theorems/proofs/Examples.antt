@@ -1,0 +1,45 @@
+-- The examples of document 01 that are marked P, from bytes.
+use Prim.Native.Nat.{ℕ}
+use mathlib.Core.Path.{_≡_, refl}
+use mathlib.Core.List.{List, [], _∷_}
+use Rattle.rules.specs.Answers.{answer, refusal}
+use Rattle.rules.specs.Readings.{many}
+use Rattle.rules.specs.Numbers.{run, spell, sound, numberAt, inRange, ranged}
+use Rattle.rules.specs.Tables.{header, readAction, readMethod, closed, decode}
+use Rattle.rules.specs.Facts.{without, joinOne, joinFrom, joinOf}
+use Rattle.rules.specs.Operators.{joined, positions}
+use Rattle.rules.specs.Texts.{bytes}
+use Rattle.rules.specs.Plans.{linesOf}
+use Rattle.rules.specs.Checks.{accepted, checkLines, stepBytes}
+use Rattle.rules.specs.LeastBounds.{leastBound}
+use Rattle.rules.specs.Refusals.{checkPlan, expandPlan, findLeast}
+
+abbrev tableT : List ℕ
+tableT = 1 ∷ 1 ∷ 1 ∷ 1 ∷ 1 ∷ 0 ∷ 1 ∷ 0 ∷ 1 ∷ 0 ∷ 3 ∷ 1 ∷ 1 ∷ 0 ∷ []
+
+-- "U is T with the method `01 02 00 00`."
+abbrev tableU : List ℕ
+tableU = 1 ∷ 1 ∷ 1 ∷ 1 ∷ 1 ∷ 0 ∷ 1 ∷ 0 ∷ 1 ∷ 0 ∷ 3 ∷ 1 ∷ 2 ∷ 0 ∷ 0 ∷ []
+
+-- "T with byte 8 as 0".
+abbrev tableT8 : List ℕ
+tableT8 = 1 ∷ 1 ∷ 1 ∷ 1 ∷ 1 ∷ 0 ∷ 1 ∷ 0 ∷ 0 ∷ 0 ∷ 3 ∷ 1 ∷ 1 ∷ 0 ∷ []
+
+pub examples :
+    (checkPlan 1 0 tableT (bytes "(m0 1)\n(a0 1)\n") ≡ accepted 3 2 2)
+    × (expandPlan 1 0 tableT (bytes "(m0 1)\n(a0 1)\n") 4 ≡ answer (0 ∷ 4 ∷ 0 ∷ 0 ∷ []))
+    × (checkPlan 1 1 tableT (bytes "(m0 1)\n") ≡ accepted 3 1 2)
+    × (expandPlan 1 1 tableT (bytes "(m0 1)\n") 4 ≡ answer (0 ∷ 4 ∷ 0 ∷ 0 ∷ []))
+    × (checkPlan 1 1 tableT (bytes "(m0 1)\n(a0 1)\n") ≡ refusal 13 2)
+    × (checkPlan 1 0 tableT [] ≡ refusal 14 0)
+    × (checkPlan 1 0 tableT (bytes "(m0 1)\n") ≡ refusal 14 1)
+    × (checkPlan 1 0 tableT (bytes "(a0 1)\n") ≡ refusal 13 1)
+    × (checkPlan 1 0 tableT (bytes "(m0 2)\n") ≡ refusal 12 1)
+    × (checkPlan 1 0 tableT (bytes "(m00 1)\n") ≡ refusal 11 1)
+    × (checkPlan 1 0 tableT8 (bytes "(m0 1)\n(a0 1)\n") ≡ refusal 15 2)
+    × (checkPlan 1 0 tableU (bytes "(m0 1)\n") ≡ refusal 12 1)
+    × (checkPlan 1 1 tableU (bytes "(m0 1)\n") ≡ accepted 6 1 3)
+    × (checkPlan 2 0 tableU (bytes "(m0 1)\n(a0 2)\n(a0 1)\n") ≡ accepted 6 3 3)
+    × (findLeast tableU ≡ answer 2)
+unfolding many run spell sound numberAt inRange ranged header readAction readMethod closed decode without joinOne joinFrom joinOf joined positions linesOf checkLines stepBytes checkPlan expandPlan leastBound findLeast
+examples = (refl, refl, refl, refl, refl, refl, refl, refl, refl, refl, refl, refl, refl, refl, refl)

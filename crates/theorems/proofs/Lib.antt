@@ -1,0 +1,13 @@
+pub mod Tests
+pub mod Emission
+pub mod Heights
+pub mod RunLaws
+pub mod Acceptance
+pub mod OneList
+pub mod SolutionLaws
+pub mod PlanTexts
+pub mod StepBytes
+pub mod Demand3
+pub mod Outcomes
+pub mod Examples
+pub mod Listing

@@ -1,0 +1,166 @@
+-- The text of a list of operators reads back as that list.
+use Prim.Native.Nat.{ℕ, zero, suc, _+_, _-_, _*_, _/_, _%_, _≤_, _<_}
+use mathlib.Core.Path.{_≡_, refl, sym, ap, subst, _∙_}
+use mathlib.Core.Bool.{Bool, true, false, _&&_, not, cond}
+use mathlib.Core.List.{List, [], _∷_, _++_, map, append-assoc, append-nil}
+use native.Mathlib.Omega.{arith}
+use lib.Seq.{append-snoc}
+use borrow.Author.Tests.{ne-eqb, lt-ltb, le-ltb, ltb-true, ltb-false}
+use lib.Dec.{T, eqb, leb, ltb, le→leb}
+use Rattle.rules.specs.Progression.{Step, act, mth}
+use Rattle.rules.specs.Operators.{Operator}
+use Rattle.rules.specs.Texts.{bytes, digit, digitsF, digits}
+use Rattle.rules.specs.Sections.{nameOf}
+use Rattle.rules.specs.Plans.{oper, isDigit, read, more, number, position, named, lineOf, linesFrom, linesOf, textOf, textsOf}
+use Rattle.laws.proofs.TestLaws.{and-l, and-r, and-i}
+use Rattle.theorems.proofs.Tests.{cond-true, cond-false}
+
+a-digit : (x : ℕ) → x < 10 → T (isDigit (48 + x))
+a-digit x h = and-i (leb 48 (48 + x)) (leb (48 + x) 57) (omega (arith, le→leb)) (omega (arith, le→leb))
+
+not-eqb : (a b : ℕ) → (a ≡ b → ⊥) → T (not (eqb a b))
+not-eqb a b h = rw (ne-eqb a b h) tt
+
+one-more : (j n x : ℕ) (cs : List ℕ) → x < 10 → more (suc j) n ((48 + x) ∷ cs) ≡ more j (n * 10 + x) cs
+one-more j n x cs h =
+    let e : 48 + x - 48 ≡ x = omega arith in
+    cond-true (isDigit (48 + x)) _ _ (a-digit x h) ∙ rw e
+
+no-more : (j n c : ℕ) (cs : List ℕ) → T (not (isDigit c)) → more j n (c ∷ cs) ≡ read n (c ∷ cs)
+no-more zero n c cs h = refl
+no-more (suc j) n c cs h = cond-false (isDigit c) _ _ h
+
+a-first : (x : ℕ) (cs : List ℕ) → 0 < x → x < 10 → number ((48 + x) ∷ cs) ≡ more 2 x cs
+a-first x cs p h =
+    let e : 48 + x - 48 ≡ x = omega arith in
+    cond-true (isDigit (48 + x)) _ _ (a-digit x h)
+    ∙ cond-false (eqb (48 + x) 48) _ _ (not-eqb (48 + x) 48 (λ q. omega arith))
+    ∙ rw e
+
+-- The digits of a number of one, two and three digits.
+last-digit : (f n : ℕ) → n < 10 → digitsF f n ≡ (48 + n) ∷ []
+unfolding digitsF
+last-digit zero n l = let e : n % 10 ≡ n = omega arith in ap (λ (d : ℕ). (48 + d) ∷ []) e
+last-digit (suc f) n l = let e : n % 10 ≡ n = omega arith in rw (lt-ltb n 10 l) (ap (λ (d : ℕ). (48 + d) ∷ []) e)
+
+more-digits : (f n : ℕ) → 10 ≤ n → digitsF (suc f) n ≡ digitsF f (n / 10) ++ digit n
+unfolding digitsF
+more-digits f n l = rw (le-ltb n 10 l)
+
+one-digit : (n : ℕ) → n < 10 → digits n ≡ (48 + n) ∷ []
+unfolding digits
+one-digit n l = last-digit n n l
+
+two-digits : (n : ℕ) → 10 ≤ n → n < 100 → digits n ≡ (48 + n / 10) ∷ (48 + n % 10) ∷ []
+unfolding digits
+two-digits zero g l = absurd (omega arith)
+two-digits (suc m) g l = more-digits m (suc m) g ∙ ap (λ (ds : List ℕ). ds ++ digit (suc m)) (last-digit m (suc m / 10) (omega arith))
+
+three-digits : (n : ℕ) → 100 ≤ n → n < 1000 → digits n ≡ (48 + n / 10 / 10) ∷ (48 + n / 10 % 10) ∷ (48 + n % 10) ∷ []
+unfolding digits
+three-digits zero g l = absurd (omega arith)
+three-digits (suc zero) g l = absurd (omega arith)
+three-digits (suc (suc m)) g l =
+    let n = suc (suc m) in
+    more-digits (suc m) n (omega arith)
+    ∙ ap (λ (ds : List ℕ). ds ++ digit n)
+    (more-digits m (n / 10) (omega arith) ∙ ap (λ (ds : List ℕ). ds ++ digit (n / 10)) (last-digit m (n / 10 / 10) (omega arith)))
+
+number-digits : (n c : ℕ) (cs : List ℕ) → n < 1000 → T (not (isDigit c)) → number (digits n ++ (c ∷ cs)) ≡ read n (c ∷ cs)
+number-digits zero c cs l h = rw (one-digit 0 (omega arith))
+number-digits (suc n) c cs l h = go (ltb (suc n) 10) refl (ltb (suc n) 100) refl
+  where
+    m : ℕ
+    m = suc n
+
+    go : (x : Bool) → ltb m 10 ≡ x → (y : Bool) → ltb m 100 ≡ y → number (digits m ++ (c ∷ cs)) ≡ read m (c ∷ cs)
+    go true e y d =
+        let a = ltb-true m 10 e in
+        ap (λ (ds : List ℕ). number (ds ++ (c ∷ cs))) (one-digit m a) ∙ a-first m (c ∷ cs) (omega arith) a ∙ no-more 2 m c cs h
+    go false e true d =
+        let a = ltb-false m 10 e in
+        let b = ltb-true m 100 d in
+        ap (λ (ds : List ℕ). number (ds ++ (c ∷ cs))) (two-digits m a b)
+        ∙ a-first (m / 10) _ (omega arith) (omega arith)
+        ∙ one-more 1 (m / 10) (m % 10) (c ∷ cs) (omega arith)
+        ∙ no-more 1 (m / 10 * 10 + m % 10) c cs h
+        ∙ ap (λ (k : ℕ). read k (c ∷ cs)) (omega arith)
+    go false e false d =
+        let b = ltb-false m 100 d in
+        ap (λ (ds : List ℕ). number (ds ++ (c ∷ cs))) (three-digits m b l)
+        ∙ a-first (m / 10 / 10) _ (omega arith) (omega arith)
+        ∙ one-more 1 (m / 10 / 10) (m / 10 % 10) ((48 + m % 10) ∷ c ∷ cs) (omega arith)
+        ∙ one-more 0 (m / 10 / 10 * 10 + m / 10 % 10) (m % 10) (c ∷ cs) (omega arith)
+        ∙ ap (λ (k : ℕ). read k (c ∷ cs)) (omega arith)
+
+-- The number of a step; an operator's numbers fit its text where they have at most three digits.
+abbrev pub numberOf : Step → ℕ
+numberOf (act k) = k
+numberOf (mth k) = k
+
+regrouped : (x d : List ℕ) → bytes "(" ++ x ++ bytes " " ++ d ++ bytes ")" ≡ 40 ∷ (x ++ (32 ∷ (d ++ (41 ∷ []))))
+regrouped x d = simp append-assoc
+
+text-of : (o : Operator) → textOf o ≡ 40 ∷ (nameOf (o .what) ++ (32 ∷ (digits (o .at) ++ (41 ∷ []))))
+text-of o = regrouped (nameOf (o .what)) (digits (o .at))
+
+line-of : (o : Operator) → numberOf (o .what) < 1000 → o .at < 1000 → lineOf (textOf o) ≡ oper o
+line-of o l h = ap lineOf (text-of o) ∙ go (o .what) (o .at) l h
+  where
+    go : (x : Step) (i : ℕ) → numberOf x < 1000 → i < 1000
+        → lineOf (40 ∷ (nameOf x ++ (32 ∷ (digits i ++ (41 ∷ []))))) ≡ oper (record { what = x; at = i })
+    go (act k) i l h = ap (named act) (number-digits k 32 _ l tt) ∙ ap (position (act k)) (number-digits i 41 [] h tt)
+    go (mth k) i l h = ap (named mth) (number-digits k 32 _ l tt) ∙ ap (position (mth k)) (number-digits i 41 [] h tt)
+
+-- No byte is a line feed.
+abbrev noFeed : List ℕ → Bool
+noFeed [] = true
+noFeed (c ∷ cs) = not (eqb c 10) && noFeed cs
+
+noFeed-append : (xs ys : List ℕ) → T (noFeed xs) → T (noFeed ys) → T (noFeed (xs ++ ys))
+noFeed-append [] ys h k = k
+noFeed-append (x ∷ xs) ys h k =
+    and-i (not (eqb x 10)) (noFeed (xs ++ ys)) (and-l (not (eqb x 10)) (noFeed xs) h)
+    (noFeed-append xs ys (and-r (not (eqb x 10)) (noFeed xs) h) k)
+
+noFeed-digit : (n : ℕ) → T (noFeed (digit n))
+noFeed-digit n = and-i (not (eqb (48 + n % 10) 10)) true (not-eqb (48 + n % 10) 10 (λ q. omega arith)) tt
+
+noFeed-digitsF : (f n : ℕ) → T (noFeed (digitsF f n))
+unfolding digitsF
+noFeed-digitsF zero n = noFeed-digit n
+noFeed-digitsF (suc f) n = go (ltb n 10) (noFeed-digitsF f (n / 10))
+  where
+    go : (x : Bool) → T (noFeed (digitsF f (n / 10))) → T (noFeed (cond x [] (digitsF f (n / 10)) ++ digit n))
+    go true h = noFeed-digit n
+    go false h = noFeed-append (digitsF f (n / 10)) (digit n) h (noFeed-digit n)
+
+noFeed-digits : (n : ℕ) → T (noFeed (digits n))
+unfolding digits
+noFeed-digits n = noFeed-digitsF n n
+
+noFeed-text : (o : Operator) → T (noFeed (textOf o))
+noFeed-text o =
+    subst (λ (l : List ℕ). T (noFeed l)) (sym (text-of o))
+    (noFeed-append (nameOf (o .what)) _ (go (o .what)) (noFeed-append (digits (o .at)) (41 ∷ []) (noFeed-digits (o .at)) tt))
+  where
+    go : (x : Step) → T (noFeed (nameOf x))
+    go (act k) = noFeed-digits k
+    go (mth k) = noFeed-digits k
+
+-- A line up to its line feed.
+fed : (acc cs ds : List ℕ) → T (noFeed cs) → linesFrom acc (cs ++ (10 ∷ ds)) ≡ lineOf (acc ++ cs) ∷ linesFrom [] ds
+fed acc [] ds h = rw append-nil
+fed acc (c ∷ cs) ds h =
+    cond-false (eqb c 10) _ _ (and-l (not (eqb c 10)) (noFeed cs) h)
+    ∙ fed (acc ++ (c ∷ [])) cs ds (and-r (not (eqb c 10)) (noFeed cs) h)
+    ∙ ap (λ (l : List ℕ). lineOf l ∷ linesFrom [] ds) (append-snoc acc c cs)
+
+abbrev pub Small : List Operator → Type 0
+Small [] = Unit {0}
+Small (o ∷ os) = (numberOf (o .what) < 1000) × (o .at < 1000) × Small os
+
+pub lines-of : (os : List Operator) → Small os → linesOf (textsOf os) ≡ map oper os
+unfolding linesOf textsOf
+lines-of [] h = refl
+lines-of (o ∷ os) h = fed [] (textOf o) (textsOf os) (noFeed-text o) ∙ (λ i. line-of o (h .0) (h .1) i ∷ lines-of os (h .2) i)

@@ -1,0 +1,34 @@
+-- Demand 3: what an accepted plan is, and the operator list of a run.
+use Prim.Native.Nat.{ℕ, _≤_}
+use mathlib.Core.Path.{_≡_}
+use mathlib.Core.List.{List}
+use lib.ListN.{length}
+use lib.Dec.{T}
+use Rattle.rules.specs.Readings.{got}
+use Rattle.rules.specs.Tables.{Table, decode}
+use Rattle.rules.specs.Progression.{Step, begin, totalCost}
+use Rattle.rules.specs.Operators.{Operator, expandAll}
+use Rattle.rules.specs.Plans.{Line, opersOf, shaped}
+use Rattle.theorems.specs.Runs.{CompleteRun, TrueHeights}
+
+-- Bound and form are in range, and the bytes s are the table t.
+pub record Given (b f : ℕ) (s : List ℕ) (t : Table) (n : ℕ) : Type 0 where
+  pub low : 1 ≤ b
+  pub high : b ≤ 64
+  pub form : f ≤ 1
+  pub size : length s ≤ 32768
+  pub reads : decode s ≡ got t n
+
+-- All lines are in shape, their operators, each at its true height, expand to a complete run, and the numbers are those of its steps.
+pub record Accepted (f : ℕ) (t : Table) (b : ℕ) (ls : List Line) (c o k : ℕ) : Type 0 where
+  pub shape : T (shaped ls)
+  pub heights : TrueHeights f t (begin t) (opersOf ls)
+  pub run : CompleteRun t f b (expandAll f t (opersOf ls))
+  pub cost : c ≡ totalCost t (expandAll f t (opersOf ls))
+  pub operators : o ≡ length (opersOf ls)
+  pub steps : k ≡ length (expandAll f t (opersOf ls))
+
+-- An operator list of the run xs: each operator at its true height, and they expand to xs.
+pub record ListOf (f : ℕ) (t : Table) (xs : List Step) (os : List Operator) : Type 0 where
+  pub heights : TrueHeights f t (begin t) os
+  pub expands : expandAll f t os ≡ xs

@@ -1,0 +1,5 @@
+-- The words in which the theorems are stated.
+pub mod Runs
+pub mod Solutions
+pub mod Demand
+pub mod StepLists

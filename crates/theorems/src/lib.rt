@@ -1,0 +1,1 @@
+// What follows from the definitions of `rules`: demand 3, where operators exist, the step list, the paper's examples. No function.
