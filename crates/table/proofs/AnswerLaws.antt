@@ -1,18 +1,15 @@
--- Laws that carry an answer of the code to the definitions.
-use mathlib.Core.Path.{_≡_, ap, sym, _∙_}
+-- What a table that was read leaves in the words.
+use mathlib.Core.Path.{_≡_}
 use mathlib.Core.List.{List}
 use Prim.Native.Nat.{ℕ, _≤_}
 use lib.ListN.{length}
 use Rattle.rules.specs.Tables.{decode}
 use Rattle.laws.proofs.TableLaws.{valid}
+use Rattle.numbers.proofs.AnswerLaws.{via}
 use Rattle.words.specs.Words.{tableOf, Held}
 use Rattle.table.specs.Answers.{stepOf}
 use Rattle.table.specs.declared.Step.{Step}
 use Rattle.table.specs.declared.Step.the-variants.{Next}
-
--- What a call ensures of its result r, at the constructor that a match found r to be.
-pub via : {R O : Type 0} (f : R → O) {r q : R} {o : O} → f r ≡ o → r ≡ q → o ≡ f q
-via f e p = sym e ∙ ap f p
 
 -- Words into which a table was read hold it.
 pub read-held : (s w : List ℕ) (r : Step) {at : ℕ} → 6147 ≤ length w → stepOf r (tableOf w) ≡ decode s → r ≡ Next at → Held w

@@ -1,3 +1,2 @@
 pub mod AnswerLaws
-pub mod GroupLaws
-pub mod WordLaws
+mod WordLaws

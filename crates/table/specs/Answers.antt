@@ -5,8 +5,6 @@ use Rattle.rules.specs.Readings.{Reading, got, bad, _>>=_, give}
 use Rattle.rules.specs.Numbers.{ranged}
 use Rattle.rules.specs.Tables.{Header, Action, allFacts}
 use Rattle.words.specs.Words.{actionRead}
-use Rattle.table.specs.declared.Num.{Num}
-use Rattle.table.specs.declared.Num.the-variants.{Got as GotNum, Bad as BadNum}
 use Rattle.table.specs.declared.OneAction.{OneAction}
 use Rattle.table.specs.declared.OneAction.the-variants.{Got as GotAction, Bad as BadAction}
 use Rattle.table.specs.declared.Header.{Header as HeaderInCode}
@@ -14,10 +12,6 @@ use Rattle.table.specs.declared.OneHeader.{OneHeader}
 use Rattle.table.specs.declared.OneHeader.the-variants.{Got as GotHeader, Bad as BadHeader}
 use Rattle.table.specs.declared.Step.{Step}
 use Rattle.table.specs.declared.Step.the-variants.{Next, Bad}
-
-abbrev pub numOf : Num → Reading ℕ
-numOf (GotNum v next) = got v next
-numOf (BadNum why at) = bad why at
 
 abbrev pub actOf : OneAction → Reading Action
 actOf (GotAction a at) = got (actionRead a) at

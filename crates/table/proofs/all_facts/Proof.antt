@@ -6,8 +6,6 @@ use Rattle.laws.proofs.NumberLaws.{shl-one}
 use borrow.Author.Needs.{needs}
 use Rattle.table.proofs.all_facts.Statement.{statement}
 use Rattle.table.proofs.all_facts.Tie as tie
-use Rattle.table.proofs.all_facts.Reads as reads
-use Rattle.table.proofs.all_facts.Lts as lts
 
 returns : tie.Need-returns
 returns c = ap (λ (n : ℕ). 2 ^ n - 1) (sym (c .if1 .taken))

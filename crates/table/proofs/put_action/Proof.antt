@@ -6,8 +6,6 @@ use Rattle.table.proofs.WordLaws.{put-action}
 use borrow.Author.Needs.{needs}
 use Rattle.table.proofs.put_action.Statement.{statement}
 use Rattle.table.proofs.put_action.Tie as tie
-use Rattle.table.proofs.put_action.Reads as reads
-use Rattle.table.proofs.put_action.Lts as lts
 
 mul-words : tie.Need-mul-words
 mul-words c = search needs

@@ -6,8 +6,6 @@ use Rattle.table.proofs.WordLaws.{put-header}
 use borrow.Author.Needs.{needs}
 use Rattle.table.proofs.put_header.Statement.{statement}
 use Rattle.table.proofs.put_header.Tie as tie
-use Rattle.table.proofs.put_header.Reads as reads
-use Rattle.table.proofs.put_header.Lts as lts
 
 slice-write-words : tie.Need-slice-write-words
 slice-write-words c = search needs

@@ -1,13 +1,9 @@
-use Rattle.table.specs.Answers.{numOf}
+use Rattle.numbers.specs.Answers.{numOf}
 use Rattle.rules.specs.Tables.{readAction}
-use Rattle.table.proofs.AnswerLaws.{via}
+use Rattle.numbers.proofs.AnswerLaws.{via}
 use borrow.Author.Needs.{needs}
 use Rattle.table.proofs.read_action.Statement.{statement}
 use Rattle.table.proofs.read_action.Tie as tie
-use Rattle.table.proofs.read_action.Reads as reads
-use Rattle.table.proofs.read_action.Lts as lts
-use Rattle.table.proofs.field.Reads as field-reads
-use Rattle.table.proofs.set.Reads as set-reads
 
 set-requires : tie.Need-set-requires
 set-requires c κs = search needs

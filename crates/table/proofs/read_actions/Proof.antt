@@ -3,7 +3,7 @@ use Rattle.rules.specs.Readings.{got, many}
 use Rattle.table.specs.Answers.{actOf}
 use Rattle.words.specs.Words.{actionOf}
 use Rattle.rules.specs.Lists.{rows}
-use Rattle.table.proofs.AnswerLaws.{via}
+use Rattle.numbers.proofs.AnswerLaws.{via}
 use Rattle.table.proofs.WordLaws.{many-bad, kept-less, turn, action-kept}
 use mathlib.Core.Path.{_≡_, refl, ap, sym, subst, _∙_}
 use Prim.Native.Nat.{ℕ, _≤_, _-_, _+_, _*_}
@@ -12,10 +12,6 @@ use lib.ListN.{length, take}
 use borrow.Author.Needs.{needs}
 use Rattle.table.proofs.read_actions.Statement.{statement}
 use Rattle.table.proofs.read_actions.Tie as tie
-use Rattle.table.proofs.read_actions.Reads as reads
-use Rattle.table.proofs.read_actions.Lts as lts
-use Rattle.table.proofs.put_action.Reads as put-action-reads
-use Rattle.table.proofs.read_action.Reads as read-action-reads
 
 abbrev Inv-loop : tie.InvT-loop
 Inv-loop s at words₀ n top k₀ p₀ words k p = (k ≤ n) × (length words ≡ length words₀) × (take 7 words ≡ take 7 words₀) × (many (readAction s top) k at ≡ got (rows (actionOf words) k) p)

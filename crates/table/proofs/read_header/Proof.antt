@@ -1,15 +1,12 @@
 use native.Mathlib.Omega.{arith}
 use Rattle.rules.specs.Tables.{header}
 use Rattle.laws.proofs.NumberLaws.{ranged-got}
-use Rattle.table.specs.Answers.{numOf, startGoal}
-use Rattle.table.proofs.AnswerLaws.{via}
+use Rattle.numbers.specs.Answers.{numOf}
+use Rattle.table.specs.Answers.{startGoal}
+use Rattle.numbers.proofs.AnswerLaws.{via}
 use borrow.Author.Needs.{needs}
 use Rattle.table.proofs.read_header.Statement.{statement}
 use Rattle.table.proofs.read_header.Tie as tie
-use Rattle.table.proofs.read_header.Reads as reads
-use Rattle.table.proofs.read_header.Lts as lts
-use Rattle.table.proofs.field.Reads as field-reads
-use Rattle.table.proofs.read_start_goal.Reads as read-start-goal-reads
 
 field-requires : tie.Need-field-requires
 field-requires c κs = search needs

@@ -1,18 +1,15 @@
 use mathlib.Core.Path.{refl, ap, sym, _∙_}
 use native.Mathlib.Omega.{arith}
 use lib.ListN.{length-set}
-use Rattle.table.specs.Answers.{numOf, stepOf}
+use Rattle.numbers.specs.Answers.{numOf}
+use Rattle.table.specs.Answers.{stepOf}
 use Rattle.rules.specs.Tables.{readMethod}
 use Rattle.laws.proofs.NumberLaws.{ranged-got}
-use Rattle.table.proofs.AnswerLaws.{via}
+use Rattle.numbers.proofs.AnswerLaws.{via}
 use Rattle.table.proofs.WordLaws.{put-method, method-got}
 use borrow.Author.Needs.{needs}
 use Rattle.table.proofs.read_method.Statement.{statement}
 use Rattle.table.proofs.read_method.Tie as tie
-use Rattle.table.proofs.read_method.Reads as reads
-use Rattle.table.proofs.read_method.Lts as lts
-use Rattle.table.proofs.field.Reads as field-reads
-use Rattle.table.proofs.read_subtasks.Reads as read-subtasks-reads
 
 field-requires : tie.Need-field-requires
 field-requires c κs = search needs

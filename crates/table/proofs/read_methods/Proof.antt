@@ -8,14 +8,11 @@ use Rattle.rules.specs.Tables.{readMethod}
 use Rattle.words.specs.Words.{methodOf}
 use Rattle.rules.specs.Lists.{rows}
 use Rattle.table.specs.Answers.{stepOf}
-use Rattle.table.proofs.AnswerLaws.{via}
+use Rattle.numbers.proofs.AnswerLaws.{via}
 use Rattle.table.proofs.WordLaws.{many-bad, kept-less, turn, method-kept}
 use borrow.Author.Needs.{needs}
 use Rattle.table.proofs.read_methods.Statement.{statement}
 use Rattle.table.proofs.read_methods.Tie as tie
-use Rattle.table.proofs.read_methods.Reads as reads
-use Rattle.table.proofs.read_methods.Lts as lts
-use Rattle.table.proofs.read_method.Reads as read-method-reads
 
 abbrev Inv-loop : tie.InvT-loop
 Inv-loop s at words₀ n lo hi k₀ p₀ words k p = (k ≤ n) × (length words ≡ length words₀) × (take 1027 words ≡ take 1027 words₀) × (many (readMethod s lo hi) k at ≡ got (rows (methodOf words) k) p)

@@ -1,12 +1,9 @@
-use Rattle.table.specs.Answers.{numOf, startGoal}
-use Rattle.table.proofs.AnswerLaws.{via}
+use Rattle.numbers.specs.Answers.{numOf}
+use Rattle.table.specs.Answers.{startGoal}
+use Rattle.numbers.proofs.AnswerLaws.{via}
 use borrow.Author.Needs.{needs}
 use Rattle.table.proofs.read_start_goal.Statement.{statement}
 use Rattle.table.proofs.read_start_goal.Tie as tie
-use Rattle.table.proofs.read_start_goal.Reads as reads
-use Rattle.table.proofs.read_start_goal.Lts as lts
-use Rattle.table.proofs.all_facts.Reads as all-facts-reads
-use Rattle.table.proofs.field.Reads as field-reads
 
 add-field : tie.Need-add-field
 add-field c = search needs

@@ -7,15 +7,12 @@ use Rattle.rules.specs.Lists.{rows}
 use Rattle.rules.specs.Readings.{got, many}
 use Rattle.rules.specs.Numbers.{ranged}
 use Rattle.words.specs.Words.{cellOf}
-use Rattle.table.specs.Answers.{numOf}
-use Rattle.table.proofs.AnswerLaws.{via}
+use Rattle.numbers.specs.Answers.{numOf}
+use Rattle.numbers.proofs.AnswerLaws.{via}
 use Rattle.table.proofs.WordLaws.{many-bad, turn, cell-stored, cell-kept}
 use borrow.Author.Needs.{needs}
 use Rattle.table.proofs.read_subtasks.Statement.{statement}
 use Rattle.table.proofs.read_subtasks.Tie as tie
-use Rattle.table.proofs.read_subtasks.Reads as reads
-use Rattle.table.proofs.read_subtasks.Lts as lts
-use Rattle.table.proofs.field.Reads as field-reads
 
 abbrev Inv-loop : tie.InvT-loop
 Inv-loop s at words₀ b n hi j₀ p₀ words j p = (j ≤ n) × (length words ≡ length words₀) × (take b words ≡ take b words₀) × (many (ranged s 0 hi 8) j at ≡ got (rows (cellOf b words) j) p)

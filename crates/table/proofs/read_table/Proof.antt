@@ -7,19 +7,12 @@ use Rattle.rules.specs.Lists.{rows}
 use Rattle.words.specs.Words.{actionOf, methodOf}
 use Rattle.table.specs.Answers.{headerRead, headOf, stepOf}
 use Rattle.table.specs.declared.Step.{Step}
-use Rattle.table.proofs.AnswerLaws.{via}
+use Rattle.numbers.proofs.AnswerLaws.{via}
 use Rattle.table.proofs.WordLaws.{table-held}
 use Rattle.laws.proofs.TableLaws.{bounded}
 use borrow.Author.Needs.{needs}
 use Rattle.table.proofs.read_table.Statement.{statement}
 use Rattle.table.proofs.read_table.Tie as tie
-use Rattle.table.proofs.read_table.Reads as reads
-use Rattle.table.proofs.read_table.Lts as lts
-use Rattle.table.proofs.all_facts.Reads as all-facts-reads
-use Rattle.table.proofs.put_header.Reads as put-header-reads
-use Rattle.table.proofs.read_actions.Reads as read-actions-reads
-use Rattle.table.proofs.read_header.Reads as read-header-reads
-use Rattle.table.proofs.read_methods.Reads as read-methods-reads
 
 read-header-requires : tie.Need-read-header-requires
 read-header-requires c κs = search needs

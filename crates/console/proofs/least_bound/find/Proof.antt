@@ -8,7 +8,8 @@ use Rattle.rules.specs.Refusals.{findLeast}
 use Rattle.words.specs.Words.{tableOf}
 use Rattle.table.specs.Answers.{stepOf}
 use Rattle.table.specs.declared.Step.{Step}
-use Rattle.table.proofs.AnswerLaws.{via, read-held}
+use Rattle.numbers.proofs.AnswerLaws.{via}
+use Rattle.table.proofs.AnswerLaws.{read-held}
 use Rattle.laws.proofs.RefusalLaws.{table-long, table-passes, table-bad, table-got}
 use Rattle.console.proofs.least_bound.find.Statement.{statement}
 use Rattle.console.proofs.least_bound.find.Tie as tie

@@ -10,7 +10,8 @@ use Rattle.rules.specs.Refusals.{countSections}
 use Rattle.words.specs.Words.{tableOf}
 use Rattle.table.specs.Answers.{stepOf}
 use Rattle.table.specs.declared.Step.{Step}
-use Rattle.table.proofs.AnswerLaws.{via, read-held}
+use Rattle.numbers.proofs.AnswerLaws.{via}
+use Rattle.table.proofs.AnswerLaws.{read-held}
 use Rattle.laws.proofs.RefusalLaws.{table-bad, table-got}
 use Rattle.console.proofs.OrderLaws.{early-refuses, early-passes, early-bound}
 use Rattle.console.proofs.sections.count.Statement.{statement}

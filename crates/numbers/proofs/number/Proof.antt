@@ -4,14 +4,10 @@ use native.Mathlib.Omega.{arith}
 use lib.ListN.{getD}
 use Rattle.rules.specs.Numbers.{sound}
 use Rattle.rules.specs.Readings.{got}
-use Rattle.table.proofs.GroupLaws.{one-group, first-group, group-last, group-bad, sound-some, sound-empty}
+use Rattle.numbers.proofs.GroupLaws.{one-group, first-group, group-last, group-bad, sound-some, sound-empty}
 use borrow.Author.Needs.{needs}
-use Rattle.table.proofs.number.Statement.{statement}
-use Rattle.table.proofs.number.Tie as tie
-use Rattle.table.proofs.number.Reads as reads
-use Rattle.table.proofs.number.Lts as lts
-use Rattle.table.proofs.long.Reads as long-reads
-use Rattle.table.proofs.wide.Reads as wide-reads
+use Rattle.numbers.proofs.number.Statement.{statement}
+use Rattle.numbers.proofs.number.Tie as tie
 
 shared-slice-read-wide : tie.Need-shared-slice-read-wide
 shared-slice-read-wide c = search needs

@@ -5,10 +5,8 @@ use lib.ListN.{length, drop}
 use Rattle.rules.specs.Numbers.{run}
 use Rattle.laws.proofs.NumberLaws.{run-end, run-stop, run-more}
 use borrow.Author.Needs.{needs}
-use Rattle.table.proofs.last.Statement.{statement}
-use Rattle.table.proofs.last.Tie as tie
-use Rattle.table.proofs.last.Reads as reads
-use Rattle.table.proofs.last.Lts as lts
+use Rattle.numbers.proofs.last.Statement.{statement}
+use Rattle.numbers.proofs.last.Tie as tie
 
 abbrev Inv-loop : tie.InvT-loop
 Inv-loop s at i₀ i = (i + run (drop i s) ≡ at + run (drop at s))

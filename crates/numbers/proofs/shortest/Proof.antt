@@ -1,9 +1,7 @@
 use borrow.Author.Tests.{eq-eqb, ne-eqb, lt-ltb, le-ltb}
 use Rattle.rules.specs.Numbers.{sound}
-use Rattle.table.proofs.shortest.Statement.{statement}
-use Rattle.table.proofs.shortest.Tie as tie
-use Rattle.table.proofs.shortest.Reads as reads
-use Rattle.table.proofs.shortest.Lts as lts
+use Rattle.numbers.proofs.shortest.Statement.{statement}
+use Rattle.numbers.proofs.shortest.Tie as tie
 
 returns : tie.Need-returns
 unfolding sound

@@ -5,14 +5,8 @@ use Rattle.rules.specs.Numbers.{sound}
 use mathlib.Core.Bool.{true, false}
 use Rattle.laws.proofs.NumberLaws.{last-below, number-ends, number-long, number-got, sound-room}
 use borrow.Author.Needs.{needs}
-use Rattle.table.proofs.slow.Statement.{statement}
-use Rattle.table.proofs.slow.Tie as tie
-use Rattle.table.proofs.slow.Reads as reads
-use Rattle.table.proofs.slow.Lts as lts
-use Rattle.table.proofs.last.Reads as last-reads
-use Rattle.table.proofs.shortest.Reads as shortest-reads
-use Rattle.table.proofs.value.Reads as value-reads
-use Rattle.table.proofs.wide.Reads as wide-reads
+use Rattle.numbers.proofs.slow.Statement.{statement}
+use Rattle.numbers.proofs.slow.Tie as tie
 
 last-requires : tie.Need-last-requires
 last-requires c κs = search needs

@@ -1,13 +1,10 @@
 use borrow.Author.Tests.{le-leb, lt-leb}
 use Rattle.rules.specs.Numbers.{ranged, inRange}
-use Rattle.table.specs.Answers.{numOf}
-use Rattle.table.proofs.AnswerLaws.{via}
+use Rattle.numbers.specs.Answers.{numOf}
+use Rattle.numbers.proofs.AnswerLaws.{via}
 use borrow.Author.Needs.{needs}
-use Rattle.table.proofs.field.Statement.{statement}
-use Rattle.table.proofs.field.Tie as tie
-use Rattle.table.proofs.field.Reads as reads
-use Rattle.table.proofs.field.Lts as lts
-use Rattle.table.proofs.number.Reads as number-reads
+use Rattle.numbers.proofs.field.Statement.{statement}
+use Rattle.numbers.proofs.field.Tie as tie
 
 number-requires : tie.Need-number-requires
 number-requires c κs = search needs

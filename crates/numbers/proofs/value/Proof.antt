@@ -6,11 +6,8 @@ use lib.Seq.{slice}
 use Rattle.rules.specs.Numbers.{spell}
 use Rattle.laws.proofs.NumberLaws.{spell-one, spell-prev, room, room-fits}
 use borrow.Author.Needs.{needs}
-use Rattle.table.proofs.value.Statement.{statement}
-use Rattle.table.proofs.value.Tie as tie
-use Rattle.table.proofs.value.Reads as reads
-use Rattle.table.proofs.value.Lts as lts
-use Rattle.table.proofs.wide.Reads as wide-reads
+use Rattle.numbers.proofs.value.Statement.{statement}
+use Rattle.numbers.proofs.value.Tie as tie
 
 abbrev Inv-loop : tie.InvT-loop
 Inv-loop s at e v₀ i₀ v i = (at ≤ i) × (i ≤ e) × (v ≡ spell (slice i (e + 1) s)) × (v < 2 * 128 ^ (9 - (i - at)))

@@ -4,14 +4,10 @@ use native.Mathlib.Omega.{arith}
 use lib.ListN.{getD}
 use Rattle.rules.specs.Numbers.{sound}
 use Rattle.rules.specs.Readings.{got}
-use Rattle.table.proofs.GroupLaws.{Begun, first-group, group-fits, power-fits, group-more, group-last, group-bad, sound-some, sound-last, sound-empty}
+use Rattle.numbers.proofs.GroupLaws.{Begun, first-group, group-fits, power-fits, group-more, group-last, group-bad, sound-some, sound-last, sound-empty}
 use borrow.Author.Needs.{needs}
-use Rattle.table.proofs.long.Statement.{statement}
-use Rattle.table.proofs.long.Tie as tie
-use Rattle.table.proofs.long.Reads as reads
-use Rattle.table.proofs.long.Lts as lts
-use Rattle.table.proofs.slow.Reads as slow-reads
-use Rattle.table.proofs.wide.Reads as wide-reads
+use Rattle.numbers.proofs.long.Statement.{statement}
+use Rattle.numbers.proofs.long.Tie as tie
 
 abbrev Inv-loop : tie.InvT-loop
 Inv-loop s at n b0 j₀ v₀ scale₀ j v scale = (1 ≤ j) × (j ≤ 9) × Begun s at j scale v

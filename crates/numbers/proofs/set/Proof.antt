@@ -5,16 +5,12 @@ use lib.ListN.{getD}
 use borrow.Author.Tests.{le-leb, lt-leb}
 use Rattle.rules.specs.Readings.{got}
 use Rattle.rules.specs.Numbers.{ranged, inRange}
-use Rattle.table.specs.Answers.{numOf}
-use Rattle.table.proofs.GroupLaws.{one-group}
-use Rattle.table.proofs.AnswerLaws.{via}
+use Rattle.numbers.specs.Answers.{numOf}
+use Rattle.numbers.proofs.GroupLaws.{one-group}
+use Rattle.numbers.proofs.AnswerLaws.{via}
 use borrow.Author.Needs.{needs}
-use Rattle.table.proofs.set.Statement.{statement}
-use Rattle.table.proofs.set.Tie as tie
-use Rattle.table.proofs.set.Reads as reads
-use Rattle.table.proofs.set.Lts as lts
-use Rattle.table.proofs.long.Reads as long-reads
-use Rattle.table.proofs.wide.Reads as wide-reads
+use Rattle.numbers.proofs.set.Statement.{statement}
+use Rattle.numbers.proofs.set.Tie as tie
 
 shared-slice-read-wide : tie.Need-shared-slice-read-wide
 shared-slice-read-wide c = search needs
