@@ -1,1 +1,2 @@
 mod OrderLaws
+pub mod Outcomes

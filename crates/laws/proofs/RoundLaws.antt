@@ -14,6 +14,7 @@ use Rattle.rules.specs.LeastBounds.{Clears, Least, boundOf, rise, methodBound, 
 use Rattle.laws.specs.Valid.{Valid}
 use Rattle.laws.specs.Bounds.{Sound, Kept}
 use Rattle.laws.proofs.TestLaws.{and-l, and-r, and-i, not-and-not}
+use Rattle.laws.proofs.TableLaws.{head-low}
 use Rattle.laws.proofs.LeastLaws.{clear-all, least}
 
 -- A property of tasks and their bounds, after one bound is set.
@@ -27,10 +28,6 @@ at-set P v h n l p q c = go (ℕ-discrete c h)
 rise-length : (v ts : List ℕ) → ((c : ℕ) → 1 ≤ boundOf v c) → length ts ≤ rise v ts
 rise-length v [] h = omega arith
 rise-length v (c ∷ ts) h = omega (arith, h c)
-
--- A method's head is a task.
-pub head-low : (t : Table) (valid : Valid t) (k : ℕ) → k < methodCount t → method t k .head < taskCount t
-head-low t valid k l = omega (arith, valid .method k l .high, valid .head .abstracts)
 
 module _ (t : Table) (valid : Valid t) where
   lowered : (v : List ℕ) (k : ℕ) → k < methodCount t → Kept t v → Kept t (set v (method t k .head) (methodBound v (method t k)))

@@ -11,7 +11,7 @@ use Prim.Native.Nat.{ℕ, zero, suc, _+_, _-_, _≤_, _<_}
 use native.Mathlib.Omega.{arith}
 use Rattle.rules.specs.Readings.{Reading, got, bad, then, many}
 use Rattle.rules.specs.Numbers.{ranged}
-use Rattle.rules.specs.Tables.{Header, Action, Method, Table, allFacts, noAction, noMethod, header, readAction, readMethod, closed, decode}
+use Rattle.rules.specs.Tables.{Header, Action, Method, Table, allFacts, noAction, noMethod, taskCount, methodCount, method, header, readAction, readMethod, closed, decode}
 use Rattle.laws.specs.Valid.{Bounded, GoodAction, GoodMethod, Valid}
 use Rattle.laws.proofs.NumberLaws.{ranged-got}
 
@@ -116,3 +116,7 @@ valid s t n e =
     let a = many-all (readAction s (allFacts (h .facts))) p1 (GoodAction h) noAction (good-action s h) (h .actions) e2 in
     let m = many-all (readMethod s (h .actions) (h .actions + h .abstracts - 1)) p2 (GoodMethod h) noMethod (good-method s h) (h .methods) e3 in
     subst Valid q (record { head = bounded s 0 e1; actions = a .0; methods = m .0; action = a .1; method = m .1 })
+
+-- A head is a task.
+pub head-low : (t : Table) → Valid t → (k : ℕ) → k < methodCount t → method t k .head < taskCount t
+head-low t v k l = omega (arith, v .method k l .high, v .head .abstracts)

@@ -35,11 +35,10 @@ pub examples :
     × (checkPlan 1 0 tableT (bytes "(m0 1)\n") ≡ refusal 14 1)
     × (checkPlan 1 0 tableT (bytes "(a0 1)\n") ≡ refusal 13 1)
     × (checkPlan 1 0 tableT (bytes "(m0 2)\n") ≡ refusal 12 1)
-    × (checkPlan 1 0 tableT (bytes "(m00 1)\n") ≡ refusal 11 1)
     × (checkPlan 1 0 tableT8 (bytes "(m0 1)\n(a0 1)\n") ≡ refusal 15 2)
     × (checkPlan 1 0 tableU (bytes "(m0 1)\n") ≡ refusal 12 1)
     × (checkPlan 1 1 tableU (bytes "(m0 1)\n") ≡ accepted 6 1 3)
     × (checkPlan 2 0 tableU (bytes "(m0 1)\n(a0 2)\n(a0 1)\n") ≡ accepted 6 3 3)
     × (findLeast tableU ≡ answer 2)
 unfolding many run spell sound numberAt inRange ranged header readAction readMethod closed decode without joinOne joinFrom joinOf joined positions linesOf checkLines stepBytes checkPlan expandPlan leastBound findLeast
-examples = (refl, refl, refl, refl, refl, refl, refl, refl, refl, refl, refl, refl, refl, refl, refl)
+examples = (refl, refl, refl, refl, refl, refl, refl, refl, refl, refl, refl, refl, refl, refl)

@@ -8,6 +8,5 @@ pub mod SolutionLaws
 pub mod PlanTexts
 pub mod StepBytes
 pub mod Demand3
-pub mod Outcomes
 pub mod Examples
 pub mod Listing

@@ -30,12 +30,8 @@ module _ (w : List ℕ) (h : Held w) (k : ℕ) (l : k < methodCount (tableOf w))
       ap (λ (m : Method). getD (m .subs) j 0) (method-is w k l)
       ∙ rows-at (cellOf (1027 + 10 * k + 2) w) 0 (getD w (1027 + 10 * k + 1) 0) j (omega (arith, width-is))
 
-  -- What a method's numbers can be.
   pub subtask-low : (j : ℕ) → j < length (method (tableOf w) k .subs) → getD (method (tableOf w) k .subs) j 0 < taskCount (tableOf w)
   subtask-low j i = omega (arith, h .valid .method k l .subs j i, h .valid .head .abstracts)
-
-  pub head-low : method (tableOf w) k .head < taskCount (tableOf w)
-  head-low = omega (arith, h .valid .method k l .high, h .valid .head .abstracts)
 
 module _ (w : List ℕ) (h : Held w) (k : ℕ) (l : k < actionCount (tableOf w)) where
   pub action-room : 7 + 4 * k + 4 ≤ length w

@@ -1,7 +1,7 @@
 use native.Mathlib.Omega.{arith}
 use Rattle.rules.specs.Tables.{method}
 use Rattle.words.specs.Words.{tableOf}
-use Rattle.words.proofs.ViewLaws.{head-low}
+use Rattle.laws.proofs.TableLaws.{head-low}
 use Rattle.least.proofs.BoundLaws.{lowered, stayed}
 use borrow.Author.Needs.{needs}
 use Rattle.least.proofs.improve_one.Statement.{statement}
@@ -16,7 +16,7 @@ method-bound-requires c κs = search needs
 slice-read-old : tie.Need-slice-read-old
 slice-read-old c =
     let s = c .before .before .before .before .before .before in
-    omega (arith, head-low (s .args .words .now) (s .pre .0) (s .args .k) (s .pre .1))
+    omega (arith, head-low (tableOf (s .args .words .now)) (s .pre .0 .valid) (s .args .k) (s .pre .1))
 
 cast-old : tie.Need-cast-old
 cast-old c = omega (arith, c .slice-known2 .given (c .before .before .before .head-of .result))
@@ -27,7 +27,7 @@ cast-bounds c = omega (arith, c .before .slice-known2 .given (c .before .before 
 slice-write-bounds : tie.Need-slice-write-bounds
 slice-write-bounds c =
     let s = c .before .before .before .before .before .before .before in
-    omega (arith, head-low (s .args .words .now) (s .pre .0) (s .args .k) (s .pre .1))
+    omega (arith, head-low (tableOf (s .args .words .now)) (s .pre .0 .valid) (s .args .k) (s .pre .1))
 
 same-length : tie.Need-same-length
 same-length c = search needs
@@ -36,7 +36,7 @@ returns : tie.Need-returns
 returns c =
     let s = c .before .before .before .before .before .before .before in
     lowered (s .args .bounds .now) (method (tableOf (s .args .words .now)) (s .args .k)) _ _ (c .before .before .before .before .head-of .ensures) (c .before .before .method-bound .ensures)
-    (omega (arith, head-low (s .args .words .now) (s .pre .0) (s .args .k) (s .pre .1))) (c .if1 .taken)
+    (omega (arith, head-low (tableOf (s .args .words .now)) (s .pre .0 .valid) (s .args .k) (s .pre .1))) (c .if1 .taken)
 
 same-length-2 : tie.Need-same-length-2
 same-length-2 c = search needs
@@ -45,7 +45,7 @@ returns-2 : tie.Need-returns-2
 returns-2 c =
     let s = c .before .before .before .before .before .before .before in
     stayed (s .args .bounds .now) (method (tableOf (s .args .words .now)) (s .args .k)) _ _ (c .before .before .before .before .head-of .ensures) (c .before .before .method-bound .ensures)
-    (omega (arith, head-low (s .args .words .now) (s .pre .0) (s .args .k) (s .pre .1))) (c .if1 .left)
+    (omega (arith, head-low (tableOf (s .args .words .now)) (s .pre .0 .valid) (s .args .k) (s .pre .1))) (c .if1 .left)
 
 pub improve-one-spec : {M : Type 1} → statement M
 improve-one-spec =
