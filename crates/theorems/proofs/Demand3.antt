@@ -90,19 +90,12 @@ accepted-given b f s plan c o k e =
     )
     go (bad why at) d a h1 h2 h3 h4 = refused why at a
 
-lines-accepts : (f : ℕ) (t : Table) (b : ℕ) → 1 ≤ b → (ls : List Line) (c o k : ℕ) → (checkLines f t b ls ≡ accepted c o k) ↔ Accepted f t b ls c o k
-unfolding checkLines
-lines-accepts f t b some ls c o k = (
-  (λ e. let q = sound f t b ls _ c o k (le→leb 1 b some) e in
-      record {
-        shape = q .shape;
-        heights = q .heights;
-        run = (le→leb 1 b some, q .run);
-        cost = omega (arith, q .cost);
-        operators = omega (arith, q .operators);
-        steps = omega (arith, q .steps);
-      }),
-  (λ q. complete f t b ls _ c o k (le→leb 1 b some)
+-- The check of lines, both ways.
+module _ (f : ℕ) (t : Table) (b : ℕ) (some : 1 ≤ b) (ls : List Line) (c o k : ℕ) where
+  accepted-lines : Accepted f t b ls c o k → checkLines f t b ls ≡ accepted c o k
+  unfolding checkLines
+  accepted-lines q =
+      complete f t b ls _ c o k (le→leb 1 b some)
       (record {
         shape = q .shape;
         heights = q .heights;
@@ -110,8 +103,20 @@ lines-accepts f t b some ls c o k = (
         cost = omega (arith, q .cost);
         operators = omega (arith, q .operators);
         steps = omega (arith, q .steps);
-      })),
-)
+      })
+
+  lines-accepted : checkLines f t b ls ≡ accepted c o k → Accepted f t b ls c o k
+  unfolding checkLines
+  lines-accepted e =
+      let q = sound f t b ls _ c o k (le→leb 1 b some) e in
+      record {
+        shape = q .shape;
+        heights = q .heights;
+        run = (le→leb 1 b some, q .run);
+        cost = omega (arith, q .cost);
+        operators = omega (arith, q .operators);
+        steps = omega (arith, q .steps);
+      }
 
 module _ {b f : ℕ} {s : List ℕ} {t : Table} {n : ℕ} (g : Given b f s t n) where
   -- What is in range comes to the check of the plan's lines.
@@ -133,9 +138,10 @@ module _ {b f : ℕ} {s : List ℕ} {t : Table} {n : ℕ} (g : Given b f s t n) 
 
   -- (a) The check accepts exactly these plans, with these numbers.
   pub accepts : (plan : List ℕ) → length plan ≤ 65536 → (c o k : ℕ) → (checkPlan b f s plan ≡ accepted c o k) ↔ Accepted f t b (linesOf plan) c o k
-  accepts plan l c o k =
-      let q = lines-accepts f t b (g .low) (linesOf plan) c o k in
-      ((λ e. q .0 (sym (checks plan l) ∙ e)), (λ a. checks plan l ∙ q .1 a))
+  accepts plan l c o k = (
+    (λ e. lines-accepted f t b (g .low) (linesOf plan) c o k (sym (checks plan l) ∙ e)),
+    (λ a. checks plan l ∙ accepted-lines f t b (g .low) (linesOf plan) c o k a),
+  )
 
   -- (b) Each complete run has exactly one list of operators.
   pub one-list : (xs : List Step) → CompleteRun t f b xs → (os : List Operator) × ListOf f t xs os × ((os′ : List Operator) → ListOf f t xs os′ → os′ ≡ os)
@@ -155,7 +161,7 @@ module _ {b f : ℕ} {s : List ℕ} {t : Table} {n : ℕ} (g : Given b f s t n) 
       let z : CompleteRun t f b (expandAll f t os) = rw e r in
       checks (textsOf os) l
       ∙ ap (checkLines f t b) (lines-of os (small f t b table-valid (g .high) os (begin t) (le→leb 1 b (g .low)) q (z .1)))
-      ∙ lines-accepts f t b (g .low) (map oper os) _ _ _ .1
+      ∙ accepted-lines f t b (g .low) (map oper os) _ _ _
       (record {
         shape = opers-shaped os;
         heights = rw (opers os) q;

@@ -1,0 +1,6 @@
+/* What include/ildorzhen.h needs of <stddef.h>, for a compiler that comes without C's headers. */
+#ifndef FREESTANDING_STDDEF_H
+#define FREESTANDING_STDDEF_H
+typedef __SIZE_TYPE__ size_t;
+#define NULL ((void *)0)
+#endif

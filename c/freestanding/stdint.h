@@ -1,0 +1,6 @@
+/* What include/ildorzhen.h needs of <stdint.h>, for a compiler that comes without C's headers. */
+#ifndef FREESTANDING_STDINT_H
+#define FREESTANDING_STDINT_H
+typedef __UINT8_TYPE__ uint8_t;
+typedef __UINT64_TYPE__ uint64_t;
+#endif
