@@ -13,7 +13,11 @@ AFTER := $(LIB)/libc.so.6 $(LIB)/libc_nonshared.a $(LIB)/libgcc.a $(LIB)/crtendS
 OUT := target/c
 ARCHIVE := target/staticlib/libconsole.a
 
-.PHONY: count test archive
+.PHONY: plan count test archive
+
+# A whole plan and a half plan against a table.
+plan: $(OUT)/plan
+	$(RUN) $(OUT)/plan
 
 # The console's questions about three tables.
 count: $(OUT)/count

@@ -1,2 +1,4 @@
 mod OrderLaws
+mod JudgeLaws
+mod WriteLaws
 pub mod Outcomes

@@ -33,12 +33,12 @@ module _ {A : Type 0} (b f : ℕ) (s : List ℕ) (rest : Answer A) where
       go true false z h = absurd (omega arith)
       go false y z h = absurd (omega arith)
 
--- A bound that passes is at most 64.
-pub early-bound : (b f n : ℕ) → earlyNumber b f n ≡ 0 → b ≤ 64
+-- A bound that passes is from 1 to 64.
+pub early-bound : (b f n : ℕ) → earlyNumber b f n ≡ 0 → (1 ≤ b) × (b ≤ 64)
 unfolding earlyNumber
-early-bound b f n = go (leb 1 b) (leb b 64) (cond (leb f 1) (cond (leb n 32768) 0 3) 2) refl
+early-bound b f n = go (leb 1 b) (leb b 64) (cond (leb f 1) (cond (leb n 32768) 0 3) 2) refl refl
   where
-    go : (x y : Bool) (k : ℕ) → leb b 64 ≡ y → cond (x && y) k 1 ≡ 0 → b ≤ 64
-    go true true k e h = leb-true b 64 e
-    go true false k e h = absurd (omega arith)
-    go false y k e h = absurd (omega arith)
+    go : (x y : Bool) (k : ℕ) → leb 1 b ≡ x → leb b 64 ≡ y → cond (x && y) k 1 ≡ 0 → (1 ≤ b) × (b ≤ 64)
+    go true true k d e h = (leb-true 1 b d, leb-true b 64 e)
+    go true false k d e h = absurd (omega arith)
+    go false y k d e h = absurd (omega arith)

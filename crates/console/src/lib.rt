@@ -1,5 +1,9 @@
 // The entries that the C console calls: numbers and byte slices in, one number out. Each states its outcome for all inputs.
+pub mod checking;
+pub mod expanding;
+mod judging;
 pub mod least_bound;
-pub mod order;
-pub mod reply;
+mod order;
+pub mod plans;
+mod reply;
 pub mod sections;

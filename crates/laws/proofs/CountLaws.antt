@@ -38,7 +38,7 @@ module _ (f : ℕ) (t : Table) (b k : ℕ) where
   unfolding positions
   method-positions l = rw (lt-ltb k (methodCount t) l)
 
-highest-low : (b r : ℕ) → highest b r ≤ b
+pub highest-low : (b r : ℕ) → highest b r ≤ b
 highest-low b zero = omega arith
 highest-low b (suc r) = rw (ne-eqb (suc r) 0 (omega arith)) (omega arith)
 

@@ -18,7 +18,7 @@ use Rattle.laws.proofs.SetLaws.{var, ∅, _∩_, _∪_, _∖_, solve}
 use Rattle.laws.proofs.JoinLaws.{facts-step, unchanged, join-runs, join-ran, join-can}
 
 -- Every task is an action.
-abbrev Below : ℕ → List ℕ → Type 0
+abbrev pub Below : ℕ → List ℕ → Type 0
 Below a [] = Unit {0}
 Below a (k ∷ ks) = T (ltb k a) × Below a ks
 
@@ -92,19 +92,20 @@ unfolding joined
 living f t k s h =
     join-ran (joinOf (map (action t) (prefix f t k))) (s .facts) (join-runs (map (action t) (prefix f t k)) (s .facts) ∙ ran t (prefix f t k) s h) .0
 
+-- A method's prefix and the subtasks that stay are its subtasks; every task of the prefix is an action.
+pub prefix-whole : (f : ℕ) (t : Table) (k : ℕ) → prefix f t k ++ stays f t k ≡ method t k .subs
+prefix-whole zero t k = refl
+prefix-whole (suc f) t k = leading-drop (actionCount t) (method t k .subs)
+
+pub prefix-below : (f : ℕ) (t : Table) (k : ℕ) → Below (actionCount t) (prefix f t k)
+prefix-below zero t k = tt
+prefix-below (suc f) t k = below-leading (actionCount t) (method t k .subs)
+
 -- A method operator: when it can run, and what it leaves.
 module _ (f : ℕ) (t : Table) (k : ℕ) where
   -- The stack as the method leaves it: its prefix on top, then its other subtasks, then what was below.
   pushed : (ys : List ℕ) → method t k .subs ++ ys ≡ prefix f t k ++ (stays f t k ++ ys)
-  pushed ys = ap (λ (l : List ℕ). l ++ ys) (sym (whole f)) ∙ append-assoc (prefix f t k) (stays f t k) ys
-    where
-      whole : (g : ℕ) → prefix g t k ++ stays g t k ≡ method t k .subs
-      whole zero = refl
-      whole (suc g) = leading-drop (actionCount t) (method t k .subs)
-
-  below-prefix : (g : ℕ) → Below (actionCount t) (prefix g t k)
-  below-prefix zero = tt
-  below-prefix (suc g) = below-leading (actionCount t) (method t k .subs)
+  pushed ys = ap (λ (l : List ℕ). l ++ ys) (sym (prefix-whole f t k)) ∙ append-assoc (prefix f t k) (stays f t k) ys
 
   pub prefix-needs : (s : State) → T (allAllowed t s (mth k ∷ map act (prefix f t k)))
       → T (not (joined f t (mth k) .dead)) × T (holds (joined f t (mth k) .needs) (s .facts))
@@ -121,7 +122,7 @@ module _ (f : ℕ) (t : Table) (k : ℕ) where
   prefix-runs s h d n =
       and-i (allowed t s (mth k)) (allAllowed t (next t s (mth k)) (map act (prefix f t k))) (and-i (fits t (s .stack) (mth k)) true h tt)
       (rw (pushed (tail (s .stack)))
-      (can t (prefix f t k) (s .facts) (stays f t k ++ tail (s .stack)) (below-prefix f)
+      (can t (prefix f t k) (s .facts) (stays f t k ++ tail (s .stack)) (prefix-below f t k)
       (sym (join-runs (map (action t) (prefix f t k)) (s .facts)) ∙ join-can (joinOf (map (action t) (prefix f t k))) (s .facts) d n)))
 
   pub prefix-after : (s : State) → afterAll t s (mth k ∷ map act (prefix f t k))

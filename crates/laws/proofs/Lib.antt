@@ -1,5 +1,6 @@
 pub mod TestLaws
 pub mod ListLaws
+pub mod StoreLaws
 pub mod NumberLaws
 pub mod TableLaws
 pub mod SetLaws
@@ -9,3 +10,5 @@ pub mod CountLaws
 pub mod LeastLaws
 pub mod RoundLaws
 pub mod RefusalLaws
+pub mod PlanLaws
+pub mod StepLaws

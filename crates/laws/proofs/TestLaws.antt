@@ -1,5 +1,6 @@
 -- Laws of tests.
-use mathlib.Core.Bool.{Bool, true, false, _&&_, not}
+use mathlib.Core.Path.{_≡_, refl}
+use mathlib.Core.Bool.{Bool, true, false, _&&_, not, cond}
 use lib.Dec.{T}
 
 pub and-l : (a b : Bool) → T (a && b) → T a
@@ -18,3 +19,11 @@ pub not-and-not : (a b : Bool) → T (not (a && not b)) → T a → T b
 not-and-not true true h k = tt
 not-and-not true false h k = h
 not-and-not false b h k = absurd k
+
+pub cond-true : {A : Type 0} (x : Bool) (a b : A) → T x → cond x a b ≡ a
+cond-true true a b h = refl
+cond-true false a b h = absurd h
+
+pub cond-false : {A : Type 0} (x : Bool) (a b : A) → T (not x) → cond x a b ≡ b
+cond-false true a b h = absurd h
+cond-false false a b h = refl

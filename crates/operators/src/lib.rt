@@ -1,5 +1,6 @@
 // The operators of a table in words: what a method takes with it, where its operators exist, and how many there are.
 ghost use mathlib.Core.Path.{_≡_};
+ghost use mathlib.Core.Bool.{cond};
 ghost use Prim.Native.Nat.{_≤_, _<_};
 ghost use lib.ListN.{length};
 ghost use Rattle.rules.specs.Tables.{methodCount};
@@ -38,10 +39,13 @@ pub fn prefix_of(words: &[u64], form: u64, k: usize) -> Prefix
 }
 
 // The highest position of a method that leaves r tasks, 0 where there is none.
-pub fn highest_position(bound: u64, r: u64) -> u64
+pub fn highest_position(dead: bool, bound: u64, r: u64) -> u64
     requires { ⌜ bound ≤ 64 ⌝ }
-    ensures { λ p. ⌜ p ≡ highest bound r ⌝ }
+    ensures { λ p. ⌜ p ≡ cond dead 0 (highest bound r) ⌝ }
 {
+    if dead {
+        return 0;
+    }
     if r == 0 {
         return bound;
     }
@@ -55,11 +59,8 @@ pub fn method_positions(words: &[u64], form: u64, bound: u64, k: usize) -> u64
 {
     let prefix = prefix_of(words, form, k);
     let join = prefix.join;
-    if join.dead {
-        return 0;
-    }
     let stay = words::width_of(words, k) - prefix.count;
-    highest_position(bound, stay as u64)
+    highest_position(join.dead, bound, stay as u64)
 }
 
 // How many operators there are.

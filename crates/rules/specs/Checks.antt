@@ -3,6 +3,8 @@ use Prim.Native.Nat.{ℕ, zero, suc, _+_, _/_, _%_}
 use mathlib.Core.Bool.{cond}
 use mathlib.Core.List.{List, [], _∷_}
 use lib.ListN.{length}
+use Rattle.rules.specs.declared.Verdict.{Verdict}
+use Rattle.rules.specs.declared.Verdict.the-variants.{Accepted, Refused}
 use Rattle.rules.specs.Answers.{Answer, answer, refusal, check}
 use Rattle.rules.specs.Tables.{Table, goalFacts}
 use Rattle.rules.specs.Facts.{holds}
@@ -18,6 +20,21 @@ pub record Tally : Type 0 where
 
 abbrev pub accepted : ℕ → ℕ → ℕ → Answer Tally
 accepted cost operators steps = answer (record { cost = cost; operators = operators; steps = steps })
+
+-- Its numbers, one at a time.
+abbrev pub costOf : Tally → ℕ
+costOf y = y .cost
+
+abbrev pub operatorsIn : Tally → ℕ
+operatorsIn y = y .operators
+
+abbrev pub stepsIn : Tally → ℕ
+stepsIn y = y .steps
+
+-- What the code's verdict says.
+abbrev pub verdictOf : Verdict → Answer Tally
+verdictOf (Accepted cost operators steps) = accepted cost operators steps
+verdictOf (Refused number place) = refusal number place
 
 -- Where a check stands: the lines passed ("Lines count from 1, comments too"), the state, and the tally so far.
 pub record Place : Type 0 where

@@ -1,44 +1,26 @@
 -- Laws of words that are stored, of a row of readings, and of the two together in a loop.
 use mathlib.Core.Path.{_≡_, refl, ap, sym, subst, _∙_}
-use mathlib.Core.List.{List, [], _∷_, _++_, append-assoc}
+use mathlib.Core.List.{List, [], _∷_, _++_}
 use Prim.Native.Nat.{ℕ, zero, suc, _+_, _*_, _≤_, _<_}
 use native.Mathlib.Nat.{add-zero, eq-or-lt-of-le, le-of-suc-le-suc}
 use native.Mathlib.Numerals.{add-one, towards-suc}
 use native.Mathlib.Omega.{arith}
 use mathlib.Core.Logic.{⊎-elim}
-use lib.ListN.{length, getD, take, drop, set, List·getD-append}
+use lib.ListN.{length, getD, take, set}
 use lib.Dec.{lit<}
-use lib.Seq.{take-take, sets, sets-eq, length-take-le, take-at, getD-append-add, getD-take, getD-set-same}
+use lib.Seq.{sets, getD-set-same}
 use Rattle.rules.specs.Readings.{Reading, got, bad, then, many}
 use Rattle.rules.specs.Numbers.{ranged}
 use Rattle.rules.specs.Lists.{rows}
-use Rattle.words.specs.Words.{headerOf, actionAt, actionOf, cellOf, methodAt, methodOf, tableOf}
-use Rattle.rules.specs.Tables.{Header, Action, Method, noMethod, readMethod}
+use Rattle.words.specs.Words.{headerOf, actionOf, cellOf, methodAt, methodOf, tableOf}
+use Rattle.rules.specs.Tables.{Header, Method, noMethod, readMethod}
+use Rattle.laws.proofs.StoreLaws.{held, kept, below, kept-less}
 use Rattle.laws.proofs.ListLaws.{rows-length, rows-at, rows-same}
 use Rattle.laws.proofs.NumberLaws.{ranged-got}
 use Rattle.laws.proofs.TableLaws.{each, many-all}
 use Rattle.table.specs.Answers.{stepOf}
 use Rattle.table.specs.declared.Step.{Step}
 use Rattle.table.specs.declared.Step.the-variants.{Next, Bad}
-
--- A run of stores from b on: what is held there, and what is kept before.
-module _ (w vs : List ℕ) (b : ℕ) (h : b + length vs ≤ length w) where
-  pub held : (i : ℕ) → i < length vs → getD (sets w b vs) (b + i) 0 ≡ getD vs i 0
-  held i k =
-      let t : length (take b w) ≡ b = length-take-le b w (omega arith) in
-      ap (λ (l : List ℕ). getD l (b + i) 0) (sets-eq vs w b h ∙ append-assoc (take b w) vs (drop (b + length vs) w))
-      ∙ ap (λ (n : ℕ). getD (take b w ++ (vs ++ drop (b + length vs) w)) (n + i) 0) (sym t)
-      ∙ getD-append-add (take b w) (vs ++ drop (b + length vs) w) i 0
-      ∙ List·getD-append vs (drop (b + length vs) w) 0 i k
-
-  pub kept : take b (sets w b vs) ≡ take b w
-  kept =
-      ap (take b) (sets-eq vs w b h ∙ append-assoc (take b w) vs (drop (b + length vs) w))
-      ∙ take-at (take b w) (vs ++ drop (b + length vs) w) b (length-take-le b w (omega arith))
-
--- What stands below b is kept.
-pub below : (w w′ : List ℕ) (b : ℕ) → take b w′ ≡ take b w → (i : ℕ) → i < b → getD w′ i 0 ≡ getD w i 0
-below w w′ b q i l = sym (getD-take b w′ i 0 l) ∙ ap (λ (x : List ℕ). getD x i 0) q ∙ getD-take b w i 0 l
 
 -- A row of readings: one more, and one that fails.
 module _ {A : Type 0} (p : ℕ → Reading A) (from : ℕ) where
@@ -58,21 +40,6 @@ module _ {A : Type 0} (p : ℕ → Reading A) (from : ℕ) where
   pub many-bad : (n k : ℕ) {xs : List A} {at why q : ℕ} → k < n → many p k from ≡ got xs at → p at ≡ bad why q → many p n from ≡ bad why q
   unfolding many
   many-bad n k l e f = stays n (suc k) l (rw (e, f))
-
--- An action that is stored.
-pub put-action : (w : List ℕ) (b : ℕ) (a : Action) → b + 4 ≤ length w → (w′ : List ℕ) → w′ ≡ set (set (set (set w b (a .needs)) (b + 1) (a .adds)) (b + 2) (a .dels)) (b + 3) (a .cost) → (take b w′ ≡ take b w) × (actionAt w′ b ≡ a)
-put-action w b a h w′ q =
-    let vs : List ℕ = a .needs ∷ a .adds ∷ a .dels ∷ a .cost ∷ [] in
-    let e : w′ ≡ sets w b vs = q ∙ simp towards-suc in
-    let at : (i : ℕ) → i < 4 → getD w′ (b + i) 0 ≡ getD vs i 0 = λ i l. ap (λ (x : List ℕ). getD x (b + i) 0) e ∙ held w vs b h i l in
-    let at0 : getD w′ b 0 ≡ a .needs = ap (λ (n : ℕ). getD w′ n 0) (sym (add-zero b)) ∙ at 0 (lit< tt) in (
-      ap (take b) e ∙ kept w vs b h,
-      λ i. record { needs = at0 i; adds = at 1 (lit< tt) i; dels = at 2 (lit< tt) i; cost = at 3 (lit< tt) i },
-    )
-
--- Less is kept where more is.
-pub kept-less : (w w′ : List ℕ) (a b : ℕ) → a ≤ b → take b w′ ≡ take b w → take a w′ ≡ take a w
-kept-less w w′ a b l q = sym (take-take a b w′ l) ∙ ap (take a) q ∙ take-take a b w l
 
 -- A turn of a loop that reads one more row and leaves the rows before it.
 module _ {A : Type 0} (view : List ℕ → ℕ → A) (p : ℕ → Reading A) (from : ℕ) where

@@ -8,7 +8,7 @@ ghost use Rattle.rules.specs.Lists.{rows};
 ghost use Rattle.rules.specs.Readings.{many};
 ghost use Rattle.rules.specs.Numbers.{ranged};
 ghost use Rattle.rules.specs.Tables.{allFacts, header, readAction, readMethod, decode};
-ghost use Rattle.words.specs.Words.{headerOf, actionRead, actionAt, actionOf, cellOf, methodAt, methodOf, tableOf};
+ghost use Rattle.words.specs.Words.{headerOf, actionOf, cellOf, methodAt, methodOf, tableOf};
 ghost use Rattle.table.specs.Answers.{actOf, headerRead, headOf, startGoal, stepOf};
 
 enum OneAction {
@@ -48,17 +48,6 @@ pub enum Step {
     Bad(u64, usize),
 }
 
-// An action in the words from b on.
-fn put_action(words: &mut [u64], b: usize, a: Action)
-    requires { ⌜ b + 4 ≤ length (now words) ⌝ }
-    ensures { λ _. ⌜ (take b (now (words .exit)) ≡ take b (now (words .entry))) × (actionAt (now (words .exit)) b ≡ actionRead a) ⌝ }
-{
-    words[b] = a.needs;
-    words[b + 1] = a.adds;
-    words[b + 2] = a.dels;
-    words[b + 3] = a.cost;
-}
-
 // The actions, four words each from word 7 on.
 fn read_actions(s: &[u8], at: usize, words: &mut [u64], n: usize, top: u64) -> Step
     requires { ⌜ 7 + 4 * n ≤ length (now words) ⌝ }
@@ -72,7 +61,7 @@ fn read_actions(s: &[u8], at: usize, words: &mut [u64], n: usize, top: u64) -> S
                 return Step::Bad(why, q);
             }
             OneAction::Got(a, next) => {
-                put_action(words, 7 + 4 * k, a);
+                words::put_action(words, 7 + 4 * k, a);
                 p = next;
                 k += 1;
             }

@@ -13,8 +13,8 @@ use Rattle.rules.specs.Operators.{expand, expandAll, emitted, applies}
 use Rattle.rules.specs.Plans.{Line, note, oper, other, opersOf, shaped}
 use Rattle.rules.specs.Checks.{Tally, Place, accepted, skip, apply, checkFrom}
 use Rattle.theorems.specs.Runs.{Run, TrueHeights}
-use Rattle.laws.proofs.TestLaws.{and-l, and-r, and-i}
-use Rattle.theorems.proofs.Tests.{cond-true, check-passed}
+use Rattle.laws.proofs.TestLaws.{and-l, and-r, and-i, cond-true}
+use Rattle.theorems.proofs.Tests.{check-passed}
 use Rattle.theorems.proofs.RunLaws.{run-over, run-back}
 use Rattle.theorems.proofs.Heights.{emitted-low, low-emitted}
 

@@ -21,15 +21,16 @@ use Rattle.theorems.specs.Runs.{Run, CompleteRun, TrueHeights}
 use Rattle.theorems.specs.Solutions.{Solution, actionsOf, summed}
 use Rattle.theorems.specs.Demand.{Given, Accepted, ListOf}
 use Rattle.theorems.specs.StepLists.{stepsOf, Numbered, AllBytes}
-use Rattle.laws.proofs.TestLaws.{and-l, and-r, and-i}
-use Rattle.theorems.proofs.Tests.{cond-true, refused, check-passed}
+use Rattle.laws.proofs.TestLaws.{and-l, and-r, and-i, cond-true}
+use Rattle.laws.proofs.StepLaws.{bytes-length}
+use Rattle.theorems.proofs.Tests.{refused, check-passed}
 use Rattle.theorems.proofs.Heights.{Known, known}
 use Rattle.theorems.proofs.RunLaws.{run-back}
 use Rattle.theorems.proofs.Acceptance.{sound, complete}
 use Rattle.theorems.proofs.OneList.{operators, unique, exists}
 use Rattle.theorems.proofs.SolutionLaws.{solution, costs}
 use Rattle.theorems.proofs.PlanTexts.{Small, numberOf, lines-of}
-use Rattle.theorems.proofs.StepBytes.{bytes-length, bytes-small, read-back}
+use Rattle.theorems.proofs.StepBytes.{bytes-small, read-back}
 
 -- A list of operators, as the lines of a plan.
 opers : (os : List Operator) → opersOf (map oper os) ≡ os
@@ -172,6 +173,10 @@ module _ {b f : ℕ} {s : List ℕ} {t : Table} {n : ℕ} (g : Given b f s t n) 
       })
 
   module _ (plan : List ℕ) (l : length plan ≤ 65536) (c o k : ℕ) (e : checkPlan b f s plan ≡ accepted c o k) where
+    -- Its lines pass the check of lines.
+    pub lines-pass : checkLines f t b (linesOf plan) ≡ accepted c o k
+    lines-pass = sym (checks plan l) ∙ e
+
     -- (d) An accepted plan's actions are a solution, and the cost reported is their summed cost.
     pub solves : Solution t (actionsOf (expandAll f t (opersOf (linesOf plan)))) × (c ≡ summed t (actionsOf (expandAll f t (opersOf (linesOf plan)))))
     solves =
@@ -183,13 +188,16 @@ module _ {b f : ℕ} {s : List ℕ} {t : Table} {n : ℕ} (g : Given b f s t n) 
     pub expansion-length : length (stepBytes (expandAll f t (opersOf (linesOf plan)))) ≡ 2 * k
     expansion-length = bytes-length _ ∙ ap (λ (m : ℕ). 2 * m) (sym (accepts plan l c o k .0 e .steps))
 
-    pub expansion : (size : ℕ) → 2 * k ≤ size → expandPlan b f s plan size ≡ answer (stepBytes (expandAll f t (opersOf (linesOf plan))))
+    pub expansion-is : (size : ℕ) → expandPlan b f s plan size ≡ roomFor size 0 (stepBytes (expandAll f t (opersOf (linesOf plan))))
     unfolding expandPlan
+    expansion-is size =
+        in-range plan l (λ t. after (checkLines f t b (linesOf plan)) (λ _. roomFor size 0 (stepBytes (expandAll f t (opersOf (linesOf plan))))))
+        ∙ ap (λ (a : Answer Tally). after a (λ _. roomFor size 0 (stepBytes (expandAll f t (opersOf (linesOf plan)))))) (sym (checks plan l) ∙ e)
+
+    pub expansion : (size : ℕ) → 2 * k ≤ size → expandPlan b f s plan size ≡ answer (stepBytes (expandAll f t (opersOf (linesOf plan))))
     expansion size h =
         let x = stepBytes (expandAll f t (opersOf (linesOf plan))) in
-        in-range plan l (λ t. after (checkLines f t b (linesOf plan)) (λ _. roomFor size 0 (stepBytes (expandAll f t (opersOf (linesOf plan))))))
-        ∙ ap (λ (a : Answer Tally). after a (λ _. roomFor size 0 x)) (sym (checks plan l) ∙ e)
-        ∙ cond-true (leb (0 + length x) size) _ _ (le→leb (0 + length x) size (omega (arith, expansion-length)))
+        expansion-is size ∙ cond-true (leb (0 + length x) size) _ _ (le→leb (0 + length x) size (omega (arith, expansion-length)))
 
     -- (f) Each step fits its word, each byte is one, and the bytes read back as the steps.
     pub steps-numbered : Numbered (expandAll f t (opersOf (linesOf plan)))

@@ -10,8 +10,7 @@ use Rattle.rules.specs.Tables.{Table, actionCount, methodCount}
 use Rattle.rules.specs.Facts.{joinFrom, joinOf}
 use Rattle.rules.specs.Progression.{act, mth, remain}
 use Rattle.rules.specs.Operators.{joined, highest, positions, emitted}
-use Rattle.laws.proofs.TestLaws.{and-l, and-r, and-i}
-use Rattle.theorems.proofs.Tests.{cond-false}
+use Rattle.laws.proofs.TestLaws.{and-l, and-r, and-i, cond-false}
 
 module _ (b r i : ℕ) where
   within-highest : (c : Bool) → eqb r 0 ≡ c → 1 ≤ i → i ≤ cond c b (b + 1 - r) → (i ≤ b) × (i + r ≤ b + 1)

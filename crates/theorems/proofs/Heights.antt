@@ -10,20 +10,9 @@ use Rattle.rules.specs.Tables.{Table, actionCount, methodCount, method}
 use Rattle.rules.specs.Progression.{State, Step, act, mth, onTop, fits, enabled, allowed, next, allAllowed, afterAll, height, leading, prefix, remain}
 use Rattle.rules.specs.Operators.{company, emitted}
 use Rattle.laws.proofs.JoinedPrefix.{living}
+use Rattle.laws.proofs.CountLaws.{prefix-short}
 use Rattle.laws.proofs.TestLaws.{and-l, and-r}
 use Rattle.theorems.proofs.Emission.{action-emitted, method-emitted}
-
-leading-le : (a : ℕ) (xs : List ℕ) → length (leading a xs) ≤ length xs
-leading-le a [] = omega arith
-leading-le a (x ∷ xs) = go (ltb x a) (leading-le a xs)
-  where
-    go : (c : Bool) → length (leading a xs) ≤ length xs → length (cond c (x ∷ leading a xs) []) ≤ suc (length xs)
-    go true h = omega arith
-    go false h = omega arith
-
-prefix-le : (f : ℕ) (t : Table) (k : ℕ) → length (prefix f t k) ≤ length (method t k .subs)
-prefix-le zero t k = omega arith
-prefix-le (suc f) t k = leading-le (actionCount t) (method t k .subs)
 
 on-top : (k : ℕ) (st : List ℕ) → T (onTop k st) → length st ≡ suc (length (tail st))
 on-top k [] h = absurd h
@@ -74,7 +63,7 @@ module _ (f : ℕ) (t : Table) (b : ℕ) where
         arith,
         mth-pops t k s (and-l (allowed t s (mth k)) (allAllowed t s′ (map act ks)) h),
         acts-pop t ks s′ (and-r (allowed t s (mth k)) (allAllowed t s′ (map act ks)) h),
-        prefix-le f t k,
+        prefix-short f t k,
       )
 
   -- An emitted operator at its true height, if it is allowed, ends within the bound.

@@ -8,5 +8,6 @@ pub mod SolutionLaws
 pub mod PlanTexts
 pub mod StepBytes
 pub mod Demand3
+pub mod Expansion
 pub mod Examples
 pub mod Listing

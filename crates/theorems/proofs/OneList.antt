@@ -2,15 +2,17 @@
 use Prim.Native.Nat.{ℕ, zero, suc}
 use mathlib.Core.Path.{_≡_, refl, sym, ap, subst, _∙_}
 use mathlib.Core.Bool.{Bool, true, false, cond}
-use mathlib.Core.List.{List, [], _∷_, _++_, map}
+use mathlib.Core.List.{List, [], _∷_, _++_, map, append-assoc}
 use native.Mathlib.Omega.{arith}
 use lib.ListN.{length, take, drop, take-append-drop}
+use lib.Seq.{take-at}
 use lib.Dec.{T, ltb, eqb, eqb→eq, ltb→lt}
 use Rattle.rules.specs.Tables.{Table, actionCount, methodCount, method}
-use Rattle.rules.specs.Progression.{State, Step, act, mth, next, afterAll, height, leading, prefix, due}
+use Rattle.rules.specs.Progression.{State, Step, act, mth, next, afterAll, height, leading, prefix, stays, due}
 use Rattle.rules.specs.Operators.{Operator, company, expand, expandAll}
 use Rattle.laws.specs.Valid.{Valid}
 use Rattle.theorems.specs.Runs.{Run, TrueHeights}
+use Rattle.laws.proofs.JoinedPrefix.{prefix-whole}
 use Rattle.laws.proofs.TestLaws.{and-l, and-r}
 
 -- The operators of some steps: one begins wherever no prefix action is due.
@@ -52,22 +54,15 @@ leading-owed a (x ∷ xs) ys = go (ltb x a) refl (leading-owed a xs ys)
     go true e h = (rw e tt, h)
     go false e h = tt
 
-leading-take : (a : ℕ) (xs ys : List ℕ) → take (length (leading a xs)) (xs ++ ys) ≡ leading a xs
-leading-take a [] ys = refl
-leading-take a (x ∷ xs) ys = go (ltb x a) (leading-take a xs ys)
-  where
-    go : (c : Bool) → take (length (leading a xs)) (xs ++ ys) ≡ leading a xs
-        → take (length (cond c (x ∷ leading a xs) [])) (x ∷ xs ++ ys) ≡ cond c (x ∷ leading a xs) []
-    go true h = ap (λ (l : List ℕ). x ∷ l) h
-    go false h = refl
-
 prefix-owed : (f : ℕ) (t : Table) (k : ℕ) (ys : List ℕ) → Owed (actionCount t) (length (prefix f t k)) (method t k .subs ++ ys)
 prefix-owed zero t k ys = tt
 prefix-owed (suc f) t k ys = leading-owed (actionCount t) (method t k .subs) ys
 
 prefix-take : (f : ℕ) (t : Table) (k : ℕ) (ys : List ℕ) → take (length (prefix f t k)) (method t k .subs ++ ys) ≡ prefix f t k
-prefix-take zero t k ys = refl
-prefix-take (suc f) t k ys = leading-take (actionCount t) (method t k .subs) ys
+prefix-take f t k ys =
+    ap (λ (l : List ℕ). take (length (prefix f t k)) (l ++ ys)) (sym (prefix-whole f t k))
+    ∙ ap (take (length (prefix f t k))) (append-assoc (prefix f t k) (stays f t k) ys)
+    ∙ take-at (prefix f t k) (stays f t k ++ ys) (length (prefix f t k)) refl
 
 record Parsed (f : ℕ) (t : Table) (o : ℕ) (s : State) (xs : List Step) : Type 0 where
   first : take o xs ≡ map act (take o (s .stack))

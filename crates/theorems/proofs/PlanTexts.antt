@@ -1,19 +1,18 @@
 -- The text of a list of operators reads back as that list.
 use Prim.Native.Nat.{ℕ, zero, suc, _+_, _-_, _*_, _/_, _%_, _≤_, _<_}
 use mathlib.Core.Path.{_≡_, refl, sym, ap, subst, _∙_}
-use mathlib.Core.Bool.{Bool, true, false, _&&_, not, cond}
-use mathlib.Core.List.{List, [], _∷_, _++_, map, append-assoc, append-nil}
+use mathlib.Core.Bool.{Bool, true, false, not, cond}
+use mathlib.Core.List.{List, [], _∷_, _++_, map, append-assoc}
 use native.Mathlib.Omega.{arith}
-use lib.Seq.{append-snoc}
 use borrow.Author.Tests.{ne-eqb, lt-ltb, le-ltb, ltb-true, ltb-false}
 use lib.Dec.{T, eqb, leb, ltb, le→leb}
 use Rattle.rules.specs.Progression.{Step, act, mth}
 use Rattle.rules.specs.Operators.{Operator}
 use Rattle.rules.specs.Texts.{bytes, digit, digitsF, digits}
 use Rattle.rules.specs.Sections.{nameOf}
-use Rattle.rules.specs.Plans.{oper, isDigit, read, more, number, position, named, lineOf, linesFrom, linesOf, textOf, textsOf}
-use Rattle.laws.proofs.TestLaws.{and-l, and-r, and-i}
-use Rattle.theorems.proofs.Tests.{cond-true, cond-false}
+use Rattle.rules.specs.Plans.{oper, isDigit, read, more, number, position, named, lineOf, linesOf, textOf, textsOf}
+use Rattle.laws.proofs.TestLaws.{and-l, and-r, and-i, cond-true, cond-false}
+use Rattle.laws.proofs.PlanLaws.{no-more, noFeed, fed}
 
 a-digit : (x : ℕ) → x < 10 → T (isDigit (48 + x))
 a-digit x h = and-i (leb 48 (48 + x)) (leb (48 + x) 57) (omega (arith, le→leb)) (omega (arith, le→leb))
@@ -25,10 +24,6 @@ one-more : (j n x : ℕ) (cs : List ℕ) → x < 10 → more (suc j) n ((48 + x)
 one-more j n x cs h =
     let e : 48 + x - 48 ≡ x = omega arith in
     cond-true (isDigit (48 + x)) _ _ (a-digit x h) ∙ rw e
-
-no-more : (j n c : ℕ) (cs : List ℕ) → T (not (isDigit c)) → more j n (c ∷ cs) ≡ read n (c ∷ cs)
-no-more zero n c cs h = refl
-no-more (suc j) n c cs h = cond-false (isDigit c) _ _ h
 
 a-first : (x : ℕ) (cs : List ℕ) → 0 < x → x < 10 → number ((48 + x) ∷ cs) ≡ more 2 x cs
 a-first x cs p h =
@@ -112,11 +107,6 @@ line-of o l h = ap lineOf (text-of o) ∙ go (o .what) (o .at) l h
     go (act k) i l h = ap (named act) (number-digits k 32 _ l tt) ∙ ap (position (act k)) (number-digits i 41 [] h tt)
     go (mth k) i l h = ap (named mth) (number-digits k 32 _ l tt) ∙ ap (position (mth k)) (number-digits i 41 [] h tt)
 
--- No byte is a line feed.
-abbrev noFeed : List ℕ → Bool
-noFeed [] = true
-noFeed (c ∷ cs) = not (eqb c 10) && noFeed cs
-
 noFeed-append : (xs ys : List ℕ) → T (noFeed xs) → T (noFeed ys) → T (noFeed (xs ++ ys))
 noFeed-append [] ys h k = k
 noFeed-append (x ∷ xs) ys h k =
@@ -147,14 +137,6 @@ noFeed-text o =
     go : (x : Step) → T (noFeed (nameOf x))
     go (act k) = noFeed-digits k
     go (mth k) = noFeed-digits k
-
--- A line up to its line feed.
-fed : (acc cs ds : List ℕ) → T (noFeed cs) → linesFrom acc (cs ++ (10 ∷ ds)) ≡ lineOf (acc ++ cs) ∷ linesFrom [] ds
-fed acc [] ds h = rw append-nil
-fed acc (c ∷ cs) ds h =
-    cond-false (eqb c 10) _ _ (and-l (not (eqb c 10)) (noFeed cs) h)
-    ∙ fed (acc ++ (c ∷ [])) cs ds (and-r (not (eqb c 10)) (noFeed cs) h)
-    ∙ ap (λ (l : List ℕ). lineOf l ∷ linesFrom [] ds) (append-snoc acc c cs)
 
 abbrev pub Small : List Operator → Type 0
 Small [] = Unit {0}

@@ -4,15 +4,9 @@ use mathlib.Core.Path.{_≡_, refl, sym, ap, _∙_}
 use mathlib.Core.List.{List, [], _∷_}
 use native.Mathlib.Omega.{arith}
 use borrow.Author.Tests.{lt-ltb, le-ltb}
-use lib.ListN.{length}
 use Rattle.rules.specs.Progression.{Step, act, mth}
 use Rattle.rules.specs.Checks.{stepBytes}
 use Rattle.theorems.specs.StepLists.{stepOf, stepsOf, Numbered, AllBytes}
-
-pub bytes-length : (xs : List Step) → length (stepBytes xs) ≡ 2 * length xs
-unfolding stepBytes
-bytes-length [] = refl
-bytes-length (x ∷ xs) = omega (arith, bytes-length xs)
 
 pub bytes-small : (xs : List Step) → Numbered xs → AllBytes (stepBytes xs)
 unfolding stepBytes

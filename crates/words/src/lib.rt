@@ -1,9 +1,9 @@
 // A table in memory, number by number: callers need not know where anything stands.
 ghost use mathlib.Core.Path.{_≡_};
-ghost use Prim.Native.Nat.{_<_};
-ghost use lib.ListN.{length, getD};
-ghost use Rattle.rules.specs.Tables.{factCount, actionCount, taskCount, methodCount, startTask, action, method};
-ghost use Rattle.words.specs.Words.{actionRead, tableOf, Held};
+ghost use Prim.Native.Nat.{_+_, _≤_, _<_};
+ghost use lib.ListN.{length, getD, take};
+ghost use Rattle.rules.specs.Tables.{factCount, actionCount, taskCount, methodCount, startTask, startFacts, goalFacts, action, method};
+ghost use Rattle.words.specs.Words.{actionRead, actionAt, tableOf, Held};
 
 pub fn fact_count(words: &[u64]) -> u64
     requires { ⌜ Held (now words) ⌝ }
@@ -33,6 +33,20 @@ pub fn start_task(words: &[u64]) -> u64
     words[4]
 }
 
+pub fn start_facts(words: &[u64]) -> u64
+    requires { ⌜ Held (now words) ⌝ }
+    ensures { λ r. ⌜ r ≡ startFacts (tableOf (now (words .entry))) ⌝ }
+{
+    words[5]
+}
+
+pub fn goal_facts(words: &[u64]) -> u64
+    requires { ⌜ Held (now words) ⌝ }
+    ensures { λ r. ⌜ r ≡ goalFacts (tableOf (now (words .entry))) ⌝ }
+{
+    words[6]
+}
+
 // One action, as the table has it.
 pub struct Action {
     pub needs: u64,
@@ -52,6 +66,17 @@ pub fn action_at(words: &[u64], k: usize) -> Action
         dels: words[b + 2],
         cost: words[b + 3],
     }
+}
+
+// An action in the words from b on.
+pub fn put_action(words: &mut [u64], b: usize, a: Action)
+    requires { ⌜ b + 4 ≤ length (now words) ⌝ }
+    ensures { λ _. ⌜ (take b (now (words .exit)) ≡ take b (now (words .entry))) × (actionAt (now (words .exit)) b ≡ actionRead a) ⌝ }
+{
+    words[b] = a.needs;
+    words[b + 1] = a.adds;
+    words[b + 2] = a.dels;
+    words[b + 3] = a.cost;
 }
 
 pub fn head_of(words: &[u64], k: usize) -> usize

@@ -1,4 +1,4 @@
-use mathlib.Core.Path.{_≡_, sym, ap, _∙_}
+use mathlib.Core.Path.{sym, ap, _∙_}
 use native.Mathlib.Omega.{arith}
 use borrow.Author.Needs.{needs}
 use Rattle.rules.specs.Facts.{Join}
@@ -10,41 +10,31 @@ use Rattle.operators.proofs.method_positions.Tie as tie
 prefix-of-requires : tie.Need-prefix-of-requires
 prefix-of-requires c κs = search needs
 
-returns : tie.Need-returns
-returns c =
-    let a = c .before .before .before .before .args in
-    let dead = ap (λ (j : Join). j .dead) (c .before .before .prefix-of .ensures .sets) in
-    sym (method-positions (a .form) (tableOf (a .words .now)) (a .bound) (a .k) (c .before .before .before .before .pre .2)
-    ∙ rw (← dead, c .if1 .taken))
-
 width-of-requires : tie.Need-width-of-requires
 width-of-requires c κs = search needs
 
 sub-stay : tie.Need-sub-stay
 sub-stay c =
-    let a = c .before .before .before .before .before .before .args in
-    omega (arith, c .before .width-of .ensures, c .before .before .before .before .prefix-of .ensures .count, prefix-short (a .form) (tableOf (a .words .now)) (a .k))
+    let a = c .before .before .before .before .before .args in
+    omega (arith, c .before .width-of .ensures, c .before .before .before .prefix-of .ensures .count, prefix-short (a .form) (tableOf (a .words .now)) (a .k))
 
 highest-position-requires : tie.Need-highest-position-requires
 highest-position-requires c κs = search needs
 
-returns-2 : tie.Need-returns-2
-returns-2 c =
-    let a = c .before .before .before .before .before .before .before .args in
-    let p = c .before .before .before .before .before .prefix-of .ensures in
-    let dead = ap (λ (j : Join). j .dead) (p .sets) in
+returns : tie.Need-returns
+returns c =
+    let a = c .before .before .before .before .before .before .args in
+    let p = c .before .before .before .before .prefix-of .ensures in
     c .highest-position .ensures
-    ∙ rw (c .before .before .width-of .ensures, p .count)
-    (sym (method-positions (a .form) (tableOf (a .words .now)) (a .bound) (a .k) (c .before .before .before .before .before .before .before .pre .2)
-    ∙ rw (← dead, c .before .before .before .if1 .left)))
+    ∙ rw (c .before .before .width-of .ensures, p .count, ap (λ (j : Join). j .dead) (p .sets))
+    (sym (method-positions (a .form) (tableOf (a .words .now)) (a .bound) (a .k) (c .before .before .before .before .before .before .pre .2)))
 
 pub method-positions-spec : {M : Type 1} → statement M
 method-positions-spec =
     tie.close
     (tie.spec
     prefix-of-requires
-    returns
     width-of-requires
     sub-stay
     highest-position-requires
-    returns-2)
+    returns)

@@ -9,7 +9,8 @@ use Rattle.words.specs.Words.{methodOf}
 use Rattle.rules.specs.Lists.{rows}
 use Rattle.table.specs.Answers.{stepOf}
 use Rattle.numbers.proofs.AnswerLaws.{via}
-use Rattle.table.proofs.WordLaws.{many-bad, kept-less, turn, method-kept}
+use Rattle.table.proofs.WordLaws.{many-bad, turn, method-kept}
+use Rattle.laws.proofs.StoreLaws.{kept-less}
 use borrow.Author.Needs.{needs}
 use Rattle.table.proofs.read_methods.Statement.{statement}
 use Rattle.table.proofs.read_methods.Tie as tie

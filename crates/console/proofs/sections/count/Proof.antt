@@ -48,7 +48,7 @@ section-count-requires c κs =
     let read = c .before .before .before .before .read-table in
     let early = sym (c .before .before .before .before .before .before .before .early .ensures) ∙ c .before .before .before .before .before .before .if1 .left in (
       read-held (a .table .now) _ (read .result) (omega (arith, read .kept .1 .0)) (read .ensures) (c .before .enum-told .given .1),
-      early-bound (a .bound) (a .form) _ early,
+      early-bound (a .bound) (a .form) _ early .1,
     )
 
 returns-2 : tie.Need-returns-2

@@ -1,11 +1,11 @@
 use native.Mathlib.Omega.{arith}
 use mathlib.Core.Path.{refl}
 use lib.ListN.{length-set}
 use Rattle.words.specs.Words.{actionRead}
-use Rattle.table.proofs.WordLaws.{put-action}
+use Rattle.words.proofs.PutLaws.{put-action}
 use borrow.Author.Needs.{needs}
-use Rattle.table.proofs.put_action.Statement.{statement}
-use Rattle.table.proofs.put_action.Tie as tie
+use Rattle.words.proofs.put_action.Statement.{statement}
+use Rattle.words.proofs.put_action.Tie as tie
 
 mul-words : tie.Need-mul-words
 mul-words c = search needs

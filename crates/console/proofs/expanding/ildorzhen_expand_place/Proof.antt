@@ -1,0 +1,22 @@
+use mathlib.Core.Path.{ap, _∙_}
+use lib.ListN.{length}
+use borrow.Author.Needs.{needs}
+use Rattle.rules.specs.Answers.{placeOf}
+use Rattle.rules.specs.Refusals.{expandPlan}
+use Rattle.console.proofs.WriteLaws.{length-place}
+use Rattle.console.proofs.expanding.ildorzhen_expand_place.Statement.{statement}
+use Rattle.console.proofs.expanding.ildorzhen_expand_place.Tie as tie
+
+measure-requires : tie.Need-measure-requires
+measure-requires c κs = search needs
+
+place-requires : tie.Need-place-requires
+place-requires c κs = search needs
+
+returns : tie.Need-returns
+returns c =
+    let a = c .before .before .before .before .before .args in
+    c .place .ensures ∙ ap placeOf (c .before .measure .ensures) ∙ length-place (expandPlan (a .bound) (a .form) (a .table .now) (a .plan .now) (length (a .steps .now)))
+
+pub ildorzhen-expand-place-spec : {M : Type 1} → statement M
+ildorzhen-expand-place-spec = tie.close (tie.spec measure-requires place-requires returns)

@@ -1,0 +1,108 @@
+// Expand a plan into steps.
+ghost use mathlib.Core.Path.{_≡_};
+ghost use lib.ListN.{length};
+ghost use Rattle.rules.specs.Answers.{numberOf, placeOf, valueOf, replyOf};
+ghost use Rattle.rules.specs.Checks.{verdictOf};
+ghost use Rattle.rules.specs.Refusals.{expandPlan, written};
+ghost use Rattle.theorems.specs.Measures.{lengthOf, roomOf};
+ghost use Rattle.plan.specs.Ready.{Few};
+use rules::Reply;
+use rules::Verdict;
+
+// Two bytes a step, where there is room for them.
+fn room(verdict: Verdict, size: usize) -> Reply
+    requires { ⌜ Few verdict ⌝ }
+    ensures { λ r. ⌜ replyOf r ≡ roomOf size (verdictOf verdict) ⌝ }
+{
+    match verdict {
+        Verdict::Refused(number, place) => Reply::Refused(number, place),
+        Verdict::Accepted(_, _, steps) => {
+            let bytes = 2 * steps;
+            if (size as u64) < bytes {
+                return Reply::Refused(16, bytes);
+            }
+            Reply::Value(bytes)
+        }
+    }
+}
+
+// The length of the step list, and nothing written.
+fn measure(bound: u64, form: u64, table: &[u8], plan: &[u8], size: usize) -> Reply
+    ensures { λ r. ⌜ replyOf r ≡ lengthOf (expandPlan bound form (now (table .entry)) (now (plan .entry)) size) ⌝ }
+{
+    room(crate::plans::verdict(bound, form, table, plan), size)
+}
+
+// The step list from the start of the bytes on, and its length.
+fn write(bound: u64, form: u64, table: &[u8], plan: &[u8], steps: &mut [u8]) -> Reply
+    ensures { λ r. ⌜ replyOf r ≡ lengthOf (expandPlan bound form (now (table .entry)) (now (plan .entry)) (length (now (steps .entry)))) ⌝ }
+    ensures { λ _. ⌜ now (steps .exit) ≡ written (now (steps .entry)) 0 (expandPlan bound form (now (table .entry)) (now (plan .entry)) (length (now (steps .entry)))) ⌝ }
+{
+    let mut words = [0u64; 6147];
+    let mut ops = [0u64; 3068];
+    let mut cells = [0u16; 9204];
+    match crate::judging::judge(bound, form, table, plan, &mut words, &mut ops, &mut cells) {
+        Verdict::Refused(number, place) => Reply::Refused(number, place),
+        Verdict::Accepted(_, _, count) => {
+            let bytes = 2 * count;
+            if (steps.len() as u64) < bytes {
+                return Reply::Refused(16, bytes);
+            }
+            plan::expand::expand(&words, form, bound, &cells, plan, steps);
+            Reply::Value(bytes)
+        }
+    }
+}
+
+#[no_mangle]
+pub extern "C" fn ildorzhen_expand_number(
+    bound: u64,
+    form: u64,
+    table: &[u8],
+    plan: &[u8],
+    steps: &[u8],
+) -> u64
+    ensures { λ r. ⌜ r ≡ numberOf (expandPlan bound form (now (table .entry)) (now (plan .entry)) (length (now (steps .entry)))) ⌝ }
+{
+    crate::reply::number(measure(bound, form, table, plan, steps.len()))
+}
+
+#[no_mangle]
+pub extern "C" fn ildorzhen_expand_place(
+    bound: u64,
+    form: u64,
+    table: &[u8],
+    plan: &[u8],
+    steps: &[u8],
+) -> u64
+    ensures { λ r. ⌜ r ≡ placeOf (expandPlan bound form (now (table .entry)) (now (plan .entry)) (length (now (steps .entry)))) ⌝ }
+{
+    crate::reply::place(measure(bound, form, table, plan, steps.len()))
+}
+
+#[no_mangle]
+pub extern "C" fn ildorzhen_expand_length(
+    bound: u64,
+    form: u64,
+    table: &[u8],
+    plan: &[u8],
+    steps: &[u8],
+) -> u64
+    ensures { λ r. ⌜ r ≡ valueOf length (expandPlan bound form (now (table .entry)) (now (plan .entry)) (length (now (steps .entry)))) ⌝ }
+{
+    crate::reply::value(measure(bound, form, table, plan, steps.len()))
+}
+
+#[no_mangle]
+pub extern "C" fn ildorzhen_expand_write(
+    bound: u64,
+    form: u64,
+    table: &[u8],
+    plan: &[u8],
+    steps: &mut [u8],
+) -> u64
+    ensures { λ r. ⌜ r ≡ valueOf length (expandPlan bound form (now (table .entry)) (now (plan .entry)) (length (now (steps .entry)))) ⌝ }
+    ensures { λ _. ⌜ now (steps .exit) ≡ written (now (steps .entry)) 0 (expandPlan bound form (now (table .entry)) (now (plan .entry)) (length (now (steps .entry)))) ⌝ }
+{
+    crate::reply::value(write(bound, form, table, plan, steps))
+}

@@ -1,0 +1,326 @@
+-- A line read byte by byte from a place on is the first line of the text from there on.
+use Prim.Native.Nat.{ℕ, zero, suc, _+_, _-_, _*_, _≤_, _<_}
+use mathlib.Core.Path.{_≡_, refl, sym, ap, subst, _∙_}
+use mathlib.Core.Bool.{Bool, true, false, not, cond, false≢true}
+use mathlib.Core.List.{List, [], _∷_, _++_}
+use mathlib.Core.Logic.{_≢_}
+use native.Mathlib.Omega.{arith}
+use lib.Dec.{T, eqb, ltb}
+use lib.ListN.{length, getD, drop, length-append, length-drop, drop-of-length-le}
+use lib.Seq.{getD-drop, drop-drop, drop-cons, drop-append-add}
+use borrow.Author.Tests.{eqb-true, eqb-false, ne-eqb}
+use Rattle.rules.specs.Plans as plans
+use Rattle.rules.specs.Plans.{note, oper, other, isDigit, read, unread, more, number, ending, position, space, named, letter, lineOf, leftover, linesOf}
+use Rattle.laws.proofs.TestLaws.{and-l, and-r}
+use Rattle.laws.proofs.PlanLaws.{no-more, noFeed, not-feed, no-feed-at, by-feed, fed, unfed}
+use Rattle.lines.specs.declared.Digits.{Digits}
+use Rattle.lines.specs.declared.Digits.the-variants.{Got, No}
+use Rattle.lines.specs.declared.Line.{Line}
+use Rattle.lines.specs.declared.Line.the-variants.{Op, Comment, Shape}
+use Rattle.lines.specs.Places.{smallAt, closed, positioned, kindOf, operatorAt, feedAt, lineAt}
+use Rattle.lines.specs.Lines.{kindStep, IsLine}
+use Rattle.lines.proofs.LineLaws.{digit-range, small-none, small-one, small-zero, small-two, small-three, small-ends, line-kind, after-kind, at-operator, at-other, at-comment, at-cut}
+
+-- The bytes from p on: cs, a line feed, rest.
+abbrev Ahead : List ℕ → List ℕ → ℕ → List ℕ → Type 0
+Ahead s rest p cs = drop p s ≡ cs ++ (10 ∷ rest)
+
+-- The first of them.
+abbrev first : List ℕ → ℕ
+first [] = 10
+first (c ∷ cs) = c
+
+not-digit : (c d : ℕ) → isDigit c ≡ true → isDigit d ≡ false → c ≢ d
+not-digit c d h k e = false≢true (sym k ∙ ap isDigit (sym e) ∙ h)
+
+module _ (s rest : List ℕ) (p : ℕ) where
+  byte-at : (cs : List ℕ) → Ahead s rest p cs → first cs ≡ getD s p 0
+  byte-at cs h =
+      let e : p + 0 ≡ p = omega arith in
+      go cs ∙ ap (λ (ds : List ℕ). getD ds 0 0) (sym h) ∙ getD-drop p s 0 0 ∙ ap (λ (n : ℕ). getD s n 0) e
+    where
+      go : (cs : List ℕ) → first cs ≡ getD (cs ++ (10 ∷ rest)) 0 0
+      go [] = refl
+      go (c ∷ cs) = refl
+
+  step-on : (c : ℕ) (cs : List ℕ) → Ahead s rest p (c ∷ cs) → (q : ℕ) → q ≡ p + 1 → Ahead s rest q cs
+  step-on c cs h q e = ap (λ (n : ℕ). drop n s) e ∙ sym (drop-drop 1 p s) ∙ ap (λ (ds : List ℕ). drop 1 ds) h
+
+  rest-at : (cs : List ℕ) → Ahead s rest p cs → drop (p + length cs + 1) s ≡ rest
+  rest-at cs h =
+      let e : p + length cs + 1 ≡ p + (length cs + 1) = omega arith in
+      ap (λ (n : ℕ). drop n s) e ∙ sym (drop-drop (length cs + 1) p s) ∙ ap (λ (ds : List ℕ). drop (length cs + 1) ds) h
+      ∙ drop-append-add cs (10 ∷ rest) 1
+
+  feed-inside : (cs : List ℕ) → Ahead s rest p cs → p + length cs < length s
+  feed-inside cs h = omega (arith, length-drop p s, ap length h, length-append cs (10 ∷ rest))
+
+-- A number read at a place, and the number that the bytes of the line begin with.
+data Alike (s rest : List ℕ) (p : ℕ) : Digits → plans.Digits → Type 0 where
+  neither : Alike s rest p No unread
+  zero-led : (d : ℕ) (cs : List ℕ) → isDigit d ≡ true → Alike s rest p No (read 0 (d ∷ cs))
+  both : (v q : ℕ) (cs : List ℕ) → v < 1000 → p < q → Ahead s rest q cs → T (noFeed cs) → Alike s rest p (Got v q) (read v cs)
+
+ended : (j n : ℕ) (cs : List ℕ) → isDigit (first cs) ≡ false → more j n cs ≡ read n cs
+ended zero n [] h = refl
+ended (suc j) n [] h = refl
+ended j n (c ∷ cs) h = no-more j n c cs (rw h tt)
+
+module _ (s rest : List ℕ) (p : ℕ) where
+  alike : {d e : Digits} {x y : plans.Digits} → d ≡ e → x ≡ y → Alike s rest p d x → Alike s rest p e y
+  alike {d} {e} {x} {y} f g h = subst (λ (w : plans.Digits). Alike s rest p e w) g (subst (λ (w : Digits). Alike s rest p w x) f h)
+
+  -- Two digits, three, and what they are after the first two and after the first.
+  two-digits : (c b : ℕ) (cs : List ℕ) → Ahead s rest p (c ∷ b ∷ cs) → T (noFeed cs) → isDigit c ≡ true → isDigit b ≡ true → c ≢ 48
+      → isDigit (first cs) ≡ false → Alike s rest p (smallAt s p) (more 1 ((c - 48) * 10 + (b - 48)) cs)
+  two-digits c b cs h n dc db z e =
+      let on-1 : Ahead s rest (p + 1) (b ∷ cs) = step-on s rest p c (b ∷ cs) h (p + 1) refl in
+      let on-2 : Ahead s rest (p + 2) cs = step-on s rest (p + 1) b cs on-1 (p + 2) (omega arith) in
+      alike
+      (small-two s p c (byte-at s rest p (c ∷ b ∷ cs) h) dc b (byte-at s rest (p + 1) (b ∷ cs) on-1) db z (first cs) (byte-at s rest (p + 2) cs on-2) e)
+      (sym (ended 1 ((c - 48) * 10 + (b - 48)) cs e))
+      (both ((c - 48) * 10 + (b - 48)) (p + 2) cs (omega (arith, digit-range c dc, digit-range b db)) (omega arith) on-2 n)
+
+  three-digits : (c b d : ℕ) (cs : List ℕ) → Ahead s rest p (c ∷ b ∷ d ∷ cs) → T (noFeed (d ∷ cs)) → isDigit c ≡ true → isDigit b ≡ true → c ≢ 48
+      → isDigit d ≡ true → Alike s rest p (smallAt s p) (more 1 ((c - 48) * 10 + (b - 48)) (d ∷ cs))
+  three-digits c b d cs h n dc db z dd =
+      let on-1 : Ahead s rest (p + 1) (b ∷ d ∷ cs) = step-on s rest p c (b ∷ d ∷ cs) h (p + 1) refl in
+      let on-2 : Ahead s rest (p + 2) (d ∷ cs) = step-on s rest (p + 1) b (d ∷ cs) on-1 (p + 2) (omega arith) in
+      alike
+      (small-three s p c (byte-at s rest p (c ∷ b ∷ d ∷ cs) h) dc b (byte-at s rest (p + 1) (b ∷ d ∷ cs) on-1) db z d (byte-at s rest (p + 2) (d ∷ cs) on-2) dd)
+      (rw dd)
+      (both (((c - 48) * 10 + (b - 48)) * 10 + (d - 48)) (p + 3) cs (omega (arith, digit-range c dc, digit-range b db, digit-range d dd)) (omega arith)
+      (step-on s rest (p + 2) d cs on-2 (p + 3) (omega arith)) (and-r (not (eqb d 10)) (noFeed cs) n))
+
+  after-two : (c b : ℕ) (cs : List ℕ) → Ahead s rest p (c ∷ b ∷ cs) → T (noFeed cs) → isDigit c ≡ true → isDigit b ≡ true → c ≢ 48
+      → (x : Bool) → isDigit (first cs) ≡ x → Alike s rest p (smallAt s p) (more 1 ((c - 48) * 10 + (b - 48)) cs)
+  after-two c b cs h n dc db z false e = two-digits c b cs h n dc db z e
+  after-two c b [] h n dc db z true e = absurd (false≢true e)
+  after-two c b (d ∷ cs) h n dc db z true e = three-digits c b d cs h n dc db z e
+
+  begun : (c : ℕ) (cs : List ℕ) → isDigit (first cs) ≡ false → (x : Bool) → eqb c 48 ≡ x → read (c - 48) cs ≡ cond x (read 0 cs) (more 2 (c - 48) cs)
+  begun c cs e true z = let o : c - 48 ≡ 0 = omega (arith, eqb-true c 48 z) in ap (λ (v : ℕ). read v cs) o
+  begun c cs e false z = sym (ended 2 (c - 48) cs e)
+
+  after-one : (c : ℕ) (cs : List ℕ) → Ahead s rest p (c ∷ cs) → T (noFeed cs) → isDigit c ≡ true → (x : Bool) → isDigit (first cs) ≡ x
+      → (y : Bool) → eqb c 48 ≡ y → Alike s rest p (smallAt s p) (cond y (read 0 cs) (more 2 (c - 48) cs))
+  after-one c cs h n dc false e y z =
+      let on-1 : Ahead s rest (p + 1) cs = step-on s rest p c cs h (p + 1) refl in
+      alike
+      (small-one s p c (byte-at s rest p (c ∷ cs) h) dc (first cs) (byte-at s rest (p + 1) cs on-1) e)
+      (begun c cs e y z)
+      (both (c - 48) (p + 1) cs (omega (arith, digit-range c dc)) (omega arith) on-1 n)
+  after-one c [] h n dc true e y z = absurd (false≢true e)
+  after-one c (b ∷ cs) h n dc true e true z =
+      alike
+      (small-zero s p c (byte-at s rest p (c ∷ b ∷ cs) h) dc b (byte-at s rest (p + 1) (b ∷ cs) (step-on s rest p c (b ∷ cs) h (p + 1) refl)) e (eqb-true c 48 z))
+      refl
+      (zero-led b cs e)
+  after-one c (b ∷ cs) h n dc true e false z =
+      alike refl (rw e) (after-two c b cs h (and-r (not (eqb b 10)) (noFeed cs) n) dc e (eqb-false c 48 z) (isDigit (first cs)) refl)
+
+  number-read : (cs : List ℕ) → Ahead s rest p cs → T (noFeed cs) → Alike s rest p (smallAt s p) (number cs)
+  number-read [] h n = alike (small-none s p 10 (byte-at s rest p [] h) refl) refl neither
+  number-read (c ∷ cs) h n = go (isDigit c) refl
+    where
+      go : (x : Bool) → isDigit c ≡ x → Alike s rest p (smallAt s p) (number (c ∷ cs))
+      go true e = rw e (after-one c cs h (and-r (not (eqb c 10)) (noFeed cs) n) e (isDigit (first cs)) refl (eqb c 48) refl)
+      go false e = alike (small-none s p c (byte-at s rest p (c ∷ cs) h) e) (rw e) neither
+
+-- What the code says of a line, and what the document does.
+data Agrees (s rest : List ℕ) (at : ℕ) : Line → plans.Line → Type 0 where
+  operators : (kind number pos next : ℕ) → drop next s ≡ rest → at + 2 ≤ next → next ≤ length s → kind ≤ 1 → number < 1000 → pos < 1000
+      → Agrees s rest at (Op kind number pos next) (oper (record { what = kindStep kind number; at = pos }))
+  comments : (next : ℕ) → drop next s ≡ rest → at < next → next ≤ length s → Agrees s rest at (Comment next) note
+  shapes : Agrees s rest at Shape other
+
+agreed : (s rest : List ℕ) (at : ℕ) {c d : Line} {l m : plans.Line} → c ≡ d → l ≡ m → Agrees s rest at c l → Agrees s rest at d m
+agreed s rest at {c} {d} {l} {m} f g h =
+    subst (λ (w : plans.Line). Agrees s rest at d w) g (subst (λ (w : Line). Agrees s rest at w l) f h)
+
+module _ (s rest : List ℕ) (at kind : ℕ) (k : kind ≤ 1) where
+  -- The bytes after a position.
+  bracket-read : (number i q : ℕ) (cs : List ℕ) → number < 1000 → i < 1000 → at < q → Ahead s rest q cs → T (noFeed cs)
+      → Agrees s rest at (closed s kind number (Got i q)) (ending (kindStep kind number) i cs)
+  bracket-read number i q [] ln li lq h n = agreed s rest at (rw (← byte-at s rest q [] h)) refl shapes
+  bracket-read number i q (c ∷ []) ln li lq h n = go (eqb c 41) refl
+    where
+      on : Ahead s rest (q + 1) []
+      on = step-on s rest q c [] h (q + 1) refl
+
+      beyond : drop (q + 2) s ≡ rest
+      beyond = let o : q + 2 ≡ q + 1 + 0 + 1 = omega arith in ap (λ (m : ℕ). drop m s) o ∙ rest-at s rest (q + 1) [] on
+
+      go : (x : Bool) → eqb c 41 ≡ x → Agrees s rest at (closed s kind number (Got i q)) (ending (kindStep kind number) i (c ∷ []))
+      go true e =
+          agreed s rest at
+          (rw (← byte-at s rest q (c ∷ []) h, e, ← byte-at s rest (q + 1) [] on))
+          (rw e)
+          (operators kind number i (q + 2) beyond (omega arith) (omega (arith, feed-inside s rest (q + 1) [] on)) k ln li)
+      go false e = agreed s rest at (rw (← byte-at s rest q (c ∷ []) h, e)) (rw e) shapes
+  bracket-read number i q (c ∷ d ∷ cs) ln li lq h n = go (eqb c 41) refl
+    where
+      on : Ahead s rest (q + 1) (d ∷ cs)
+      on = step-on s rest q c (d ∷ cs) h (q + 1) refl
+
+      other-byte : d ≢ 10
+      other-byte = not-feed d (and-l (not (eqb d 10)) (noFeed cs) (and-r (not (eqb c 10)) (noFeed (d ∷ cs)) n))
+
+      go : (x : Bool) → eqb c 41 ≡ x → Agrees s rest at (closed s kind number (Got i q)) other
+      go true e =
+          agreed s rest at
+          (rw (← byte-at s rest q (c ∷ d ∷ cs) h, e, ← byte-at s rest (q + 1) (d ∷ cs) on, ne-eqb d 10 other-byte)) refl shapes
+      go false e = agreed s rest at (rw (← byte-at s rest q (c ∷ d ∷ cs) h, e)) refl shapes
+
+  position-read : (number p : ℕ) {d : Digits} {e : plans.Digits} → number < 1000 → at < p → Alike s rest p d e
+      → Agrees s rest at (closed s kind number d) (position (kindStep kind number) e)
+  position-read number p ln lp neither = shapes
+  position-read number p ln lp (zero-led d [] h) = rw (ne-eqb d 41 (not-digit d 41 h refl)) shapes
+  position-read number p ln lp (zero-led d (b ∷ cs) h) = shapes
+  position-read number p ln lp (both i q cs li lq h n) = bracket-read number i q cs ln li (omega arith) h n
+
+  space-read : (number q : ℕ) (cs : List ℕ) → number < 1000 → at < q → Ahead s rest q cs → T (noFeed cs)
+      → Agrees s rest at (positioned s kind (Got number q)) (space (kindStep kind number) cs)
+  space-read number q [] ln lq h n = agreed s rest at (rw (← byte-at s rest q [] h)) refl shapes
+  space-read number q (c ∷ cs) ln lq h n = go (eqb c 32) refl
+    where
+      go : (x : Bool) → eqb c 32 ≡ x → Agrees s rest at (positioned s kind (Got number q)) (space (kindStep kind number) (c ∷ cs))
+      go true e =
+          agreed s rest at (rw (← byte-at s rest q (c ∷ cs) h, e)) (rw e)
+          (position-read number (q + 1) ln (omega arith)
+          (number-read s rest (q + 1) cs (step-on s rest q c cs h (q + 1) refl) (and-r (not (eqb c 10)) (noFeed cs) n)))
+      go false e = agreed s rest at (rw (← byte-at s rest q (c ∷ cs) h, e)) (rw e) shapes
+
+  name-read : (p : ℕ) {d : Digits} {e : plans.Digits} → at < p → Alike s rest p d e → Agrees s rest at (positioned s kind d) (named (kindStep kind) e)
+  name-read p lp neither = shapes
+  name-read p lp (zero-led d cs h) = rw (ne-eqb d 32 (not-digit d 32 h refl)) shapes
+  name-read p lp (both number q cs ln lq h n) = space-read number q cs ln (omega arith) h n
+
+-- What follows the opening bracket.
+module _ (s rest : List ℕ) (at : ℕ) where
+  operator-read : (cs : List ℕ) → Ahead s rest (at + 1) cs → T (noFeed cs) → Agrees s rest at (operatorAt s at) (letter cs)
+  operator-read [] h n = agreed s rest at (line-kind s at 10 2 (byte-at s rest (at + 1) [] h) refl (omega arith)) refl shapes
+  operator-read (c ∷ cs) h n = go (eqb c 97) refl (eqb c 109) refl
+    where
+      byte : c ≡ getD s (at + 1) 0
+      byte = byte-at s rest (at + 1) (c ∷ cs) h
+
+      name : Alike s rest (at + 2) (smallAt s (at + 2)) (number cs)
+      name = number-read s rest (at + 2) cs (step-on s rest (at + 1) c cs h (at + 2) (omega arith)) (and-r (not (eqb c 10)) (noFeed cs) n)
+
+      of-kind : (kind : ℕ) → kind ≡ kindOf c → kind ≤ 1 → Agrees s rest at (operatorAt s at) (named (kindStep kind) (number cs))
+      of-kind kind e k = agreed s rest at (sym (after-kind s at c kind byte e k)) refl (name-read s rest at kind k (at + 2) (omega arith) name)
+
+      go : (x : Bool) → eqb c 97 ≡ x → (y : Bool) → eqb c 109 ≡ y → Agrees s rest at (operatorAt s at) (letter (c ∷ cs))
+      go true e y f = agreed s rest at refl (rw e) (of-kind 0 (rw e) (omega arith))
+      go false e true f = agreed s rest at refl (rw (e, f)) (of-kind 1 (rw (e, f)) (omega arith))
+      go false e false f = agreed s rest at (line-kind s at c 2 byte (rw (e, f)) (omega arith)) (rw (e, f)) shapes
+
+-- Where the first line feed is.
+feed-after : (cs rest : List ℕ) → T (noFeed cs) → feedAt (cs ++ (10 ∷ rest)) ≡ length cs
+unfolding feedAt
+feed-after [] rest h = refl
+feed-after (c ∷ cs) rest h =
+    rw (ne-eqb c 10 (not-feed c (and-l (not (eqb c 10)) (noFeed cs) h))) (ap suc (feed-after cs rest (and-r (not (eqb c 10)) (noFeed cs) h)))
+
+feed-none : (ds : List ℕ) → T (noFeed ds) → feedAt ds ≡ length ds
+unfolding feedAt
+feed-none [] h = refl
+feed-none (c ∷ cs) h =
+    rw (ne-eqb c 10 (not-feed c (and-l (not (eqb c 10)) (noFeed cs) h))) (ap suc (feed-none cs (and-r (not (eqb c 10)) (noFeed cs) h)))
+
+-- A line that ends with a line feed.
+module _ (s rest : List ℕ) (at : ℕ) where
+  line-read : (cs : List ℕ) → Ahead s rest at cs → T (noFeed cs) → Agrees s rest at (lineAt s at) (lineOf cs)
+  line-read [] h n = agreed s rest at (at-other s at 10 (byte-at s rest at [] h) (λ e. omega arith) (λ e. omega arith)) refl shapes
+  line-read (c ∷ cs) h n = go (eqb c 59) refl (eqb c 40) refl
+    where
+      byte : c ≡ getD s at 0
+      byte = byte-at s rest at (c ∷ cs) h
+
+      feed : at + length (c ∷ cs) ≡ at + feedAt (drop at s)
+      feed = ap (λ (m : ℕ). at + m) (sym (feed-after (c ∷ cs) rest n) ∙ ap feedAt (sym h))
+
+      inside : at + length (c ∷ cs) < length s
+      inside = feed-inside s rest at (c ∷ cs) h
+
+      go : (x : Bool) → eqb c 59 ≡ x → (y : Bool) → eqb c 40 ≡ y → Agrees s rest at (lineAt s at) (lineOf (c ∷ cs))
+      go true e y f =
+          agreed s rest at
+          (at-comment s at c byte (λ z. omega (arith, eqb-true c 59 e)) (eqb-true c 59 e) (at + length (c ∷ cs)) feed inside)
+          (rw e)
+          (comments (at + length (c ∷ cs) + 1) (rest-at s rest at (c ∷ cs) h) (omega arith) (omega (arith, inside)))
+      go false e true f =
+          agreed s rest at (at-operator s at c byte (eqb-true c 40 f)) (rw (e, f))
+          (operator-read s rest at cs (step-on s rest at c cs h (at + 1) refl) (and-r (not (eqb c 10)) (noFeed cs) n))
+      go false e false f = agreed s rest at (at-other s at c byte (eqb-false c 40 f) (eqb-false c 59 e)) (rw (e, f)) shapes
+
+-- A line without line feed.
+module _ (s : List ℕ) (at : ℕ) (n : T (noFeed (drop at s))) where
+  no-feed-from : (p : ℕ) → at ≤ p → getD s p 0 ≢ 10
+  no-feed-from p l e =
+      let o : at + (p - at) ≡ p = omega arith in
+      no-feed-at (drop at s) n (p - at) (getD-drop at s (p - at) 0 ∙ ap (λ (m : ℕ). getD s m 0) o ∙ e)
+
+  either : (x : Bool) → cond x Shape Shape ≡ Shape
+  either true = refl
+  either false = refl
+
+  closed-cut : (kind number p : ℕ) (d : Digits) → at ≤ p → smallAt s p ≡ d → closed s kind number d ≡ Shape
+  closed-cut kind number p No l e = refl
+  closed-cut kind number p (Got i q) l e =
+      let o : at ≤ q + 1 = omega (arith, small-ends s p i q e) in
+      rw (ne-eqb (getD s (q + 1) 0) 10 (no-feed-from (q + 1) o)) (either (eqb (getD s q 0) 41))
+
+  positioned-cut : (kind p : ℕ) (d : Digits) → at ≤ p → smallAt s p ≡ d → positioned s kind d ≡ Shape
+  positioned-cut kind p No l e = refl
+  positioned-cut kind p (Got number q) l e =
+      let o : at ≤ q + 1 = omega (arith, small-ends s p number q e) in
+      rw (closed-cut kind number (q + 1) (smallAt s (q + 1)) o refl) (either (eqb (getD s q 0) 32))
+
+  operator-cut : operatorAt s at ≡ Shape
+  unfolding operatorAt
+  operator-cut =
+      rw (positioned-cut (kindOf (getD s (at + 1) 0)) (at + 2) (smallAt s (at + 2)) (omega arith) refl)
+      (either (ltb 1 (kindOf (getD s (at + 1) 0))))
+
+  line-cut : at < length s → lineAt s at ≡ Shape
+  line-cut l = go (eqb (getD s at 0) 40) refl (eqb (getD s at 0) 59) refl
+    where
+      go : (x : Bool) → eqb (getD s at 0) 40 ≡ x → (y : Bool) → eqb (getD s at 0) 59 ≡ y → lineAt s at ≡ Shape
+      go true e y f = sym (at-operator s at (getD s at 0) refl (eqb-true _ 40 e)) ∙ operator-cut
+      go false e true f =
+          sym (at-cut s at (getD s at 0) refl (eqb-false _ 40 e) (eqb-true _ 59 f) (at + feedAt (drop at s)) refl
+          (omega (arith, feed-none (drop at s) n, length-drop at s)))
+      go false e false f = sym (at-other s at (getD s at 0) refl (eqb-false _ 40 e) (eqb-false _ 59 f))
+
+  left-over : at < length s → linesOf (drop at s) ≡ other ∷ []
+  unfolding linesOf
+  left-over l = unfed [] (drop at s) n ∙ ap leftover (drop-cons s at 0 l)
+
+first-line : (s rest : List ℕ) (at : ℕ) {r : Line} {l : plans.Line} → linesOf (drop at s) ≡ l ∷ linesOf rest → Agrees s rest at r l → IsLine s at r
+first-line s rest at e (operators kind number pos next b o w k ln lp) =
+    record {
+      lines = e ∙ ap (λ (ds : List ℕ). oper (record { what = kindStep kind number; at = pos }) ∷ linesOf ds) (sym b);
+      onward = o;
+      within = w;
+      known = k;
+      number-low = ln;
+      position-low = lp;
+    }
+first-line s rest at e (comments next b o w) = record { lines = e ∙ ap (λ (ds : List ℕ). note ∷ linesOf ds) (sym b); onward = o; within = w }
+first-line s rest at e shapes = (linesOf rest, e)
+
+pub line-is : (s : List ℕ) (at : ℕ) → at < length s → IsLine s at (lineAt s at)
+unfolding linesOf
+line-is s at l =
+    by-feed (drop at s)
+    (λ n. subst (λ (r : Line). IsLine s at r) (sym (line-cut s at n l)) ([], left-over s at n l))
+    (λ cs rest n h. first-line s rest at (ap linesOf h ∙ fed [] cs rest n) (line-read s rest at cs h n))
+
+pub told : (s : List ℕ) (at : ℕ) (r : Line) → r ≡ lineAt s at → at < length s → IsLine s at r
+told s at r e l = subst (λ (x : Line). IsLine s at x) (sym e) (line-is s at l)
+
+pub no-line : (s : List ℕ) (at : ℕ) → length s ≤ at → linesOf (drop at s) ≡ []
+unfolding linesOf
+no-line s at l = rw (drop-of-length-le s l)

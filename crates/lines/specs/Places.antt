@@ -1,0 +1,53 @@
+-- One line of a plan text, byte by byte from a place on. A byte past the end reads as 0, which no line has.
+use mathlib.Core.Bool.{cond}
+use mathlib.Core.List.{List, [], _∷_}
+use Prim.Native.Nat.{ℕ, suc, _+_, _-_, _*_}
+use lib.Dec.{ltb, eqb}
+use lib.ListN.{length, getD, drop}
+use Rattle.rules.specs.Plans.{isDigit}
+use Rattle.lines.specs.declared.Digits.{Digits}
+use Rattle.lines.specs.declared.Digits.the-variants.{Got, No}
+use Rattle.lines.specs.declared.Line.{Line}
+use Rattle.lines.specs.declared.Line.the-variants.{Op, Comment, Shape}
+
+-- One to three digits, no leading zero but 0 itself.
+unfoldable pub smallAt : List ℕ → ℕ → Digits
+smallAt s at =
+    cond (isDigit (getD s at 0))
+    (cond (isDigit (getD s (at + 1) 0))
+    (cond (eqb (getD s at 0) 48) No
+    (cond (isDigit (getD s (at + 2) 0))
+    (Got (((getD s at 0 - 48) * 10 + (getD s (at + 1) 0 - 48)) * 10 + (getD s (at + 2) 0 - 48)) (at + 3))
+    (Got ((getD s at 0 - 48) * 10 + (getD s (at + 1) 0 - 48)) (at + 2))))
+    (Got (getD s at 0 - 48) (at + 1)))
+    No
+
+-- A closing bracket and a line feed.
+abbrev pub closed : List ℕ → ℕ → ℕ → Digits → Line
+closed s kind number No = Shape
+closed s kind number (Got pos q) = cond (eqb (getD s q 0) 41) (cond (eqb (getD s (q + 1) 0) 10) (Op kind number pos (q + 2)) Shape) Shape
+
+abbrev pub positioned : List ℕ → ℕ → Digits → Line
+positioned s kind No = Shape
+positioned s kind (Got number p) = cond (eqb (getD s p 0) 32) (closed s kind number (smallAt s (p + 1))) Shape
+
+-- 0 for an action, 1 for a method, 2 for neither.
+abbrev pub kindOf : ℕ → ℕ
+kindOf c = cond (eqb c 97) 0 (cond (eqb c 109) 1 2)
+
+-- What follows the opening bracket at a place.
+unfoldable pub operatorAt : List ℕ → ℕ → Line
+operatorAt s at = cond (ltb 1 (kindOf (getD s (at + 1) 0))) Shape (positioned s (kindOf (getD s (at + 1) 0)) (smallAt s (at + 2)))
+
+-- How many bytes come before the first line feed, or before the end.
+unfoldable pub feedAt : List ℕ → ℕ
+feedAt [] = 0
+feedAt (b ∷ bs) = cond (eqb b 10) 0 (suc (feedAt bs))
+
+-- A line: an operator, or a comment up to its line feed.
+unfoldable pub lineAt : List ℕ → ℕ → Line
+lineAt s at =
+    cond (eqb (getD s at 0) 40) (operatorAt s at)
+    (cond (eqb (getD s at 0) 59)
+    (cond (ltb (at + feedAt (drop at s)) (length s)) (Comment (at + feedAt (drop at s) + 1)) Shape)
+    Shape)

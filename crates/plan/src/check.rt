@@ -1,0 +1,145 @@
+// The check of a plan: each line's operator on the run, up to the first at fault.
+ghost use mathlib.Core.Path.{_≡_};
+ghost use mathlib.Core.List.{List};
+ghost use Prim.Native.Nat.{ℕ, _<_, _≤_};
+ghost use lib.ListN.{length};
+ghost use Rattle.rules.specs.Tables.{startFacts};
+ghost use Rattle.rules.specs.Plans.{linesOf};
+ghost use Rattle.rules.specs.Checks.{verdictOf, finish, checkLines};
+ghost use Rattle.words.specs.Words.{tableOf, Held};
+ghost use Rattle.lines.specs.Lines.{kindStep};
+ghost use Rattle.run.specs.Steps.{documentStep, placeOf};
+ghost use Rattle.run.specs.Runs.{TallyOk, pointOf, turnedOf};
+ghost use Rattle.plan.specs.Ready.{Ready, rowIndex, Few};
+use lines::Line;
+use rules::Verdict;
+use run::Tally;
+use run::Turned;
+
+// The row of an operator, and the number of rows where there is none.
+pub fn row_index(kind: u64, number: u64, actions: u64, methods: u64) -> u64
+    requires { ⌜ (actions ≤ 255) × (methods ≤ 512) ⌝ }
+    ensures { λ r. ⌜ r ≡ rowIndex kind number actions methods ⌝ }
+{
+    if kind == 0 {
+        if number < actions {
+            return number;
+        }
+        return actions + methods;
+    }
+    if number < methods {
+        return actions + number;
+    }
+    actions + methods
+}
+
+// One line's operator on the run.
+fn operate(
+    words: &[u64],
+    form: u64,
+    bound: u64,
+    ops: &[u64],
+    cells: &[u16],
+    t: Tally,
+    stack: &mut [u16; 72],
+    kind: u64,
+    number: u64,
+    pos: u64,
+) -> Turned
+    requires { ⌜ Ready form bound (now words) (now ops) (now cells) ⌝ }
+    requires { ⌜ (length (now stack) ≡ 72) × TallyOk t ⌝ }
+    requires { ⌜ t .operators < 65535 ⌝ }
+    ensures { λ r. ⌜ turnedOf r (now (stack .exit)) ≡ documentStep form (tableOf (now (words .entry))) bound (record { what = kindStep kind number; at = pos }) (pointOf t (now (stack .entry))) ⌝ }
+    ensures { λ r. ⌜ (length (now (stack .exit)) ≡ 72) × TallyOk (r .tally) ⌝ }
+{
+    let actions = words::action_count(words);
+    let methods = words::method_count(words) as u64;
+    let index = row_index(kind, number, actions, methods);
+    if actions + methods <= index {
+        return Turned {
+            number: 12,
+            tally: t,
+        };
+    }
+    run::turn(t, stack, ops, cells, index as usize, pos)
+}
+
+// Before the first line: the starting task alone on the stack, which stands in cells of its own.
+fn begun(words: &[u64]) -> Tally
+    requires { ⌜ Held (now words) ⌝ }
+    ensures { λ r. ⌜ r ≡ record { facts = startFacts (tableOf (now (words .entry))); height = 1; operators = 0; steps = 0; cost = 0 } ⌝ }
+{
+    Tally {
+        facts: words::start_facts(words),
+        height: 1,
+        operators: 0,
+        steps: 0,
+        cost: 0,
+    }
+}
+
+// The end of a plan of so many lines.
+fn conclude(words: &[u64], t: Tally, lines: u64) -> Verdict
+    requires { ⌜ Held (now words) × TallyOk t ⌝ }
+    ensures { λ r. ⌜ Few r ⌝ }
+    ensures { λ r. ⌜ ((cells : List ℕ) → verdictOf r ≡ finish (tableOf (now (words .entry))) (placeOf lines (pointOf t cells))) ⌝ }
+{
+    if t.height != 0 {
+        return Verdict::Refused(14, lines);
+    }
+    if !run::all_hold(words::goal_facts(words), t.facts) {
+        return Verdict::Refused(15, lines);
+    }
+    Verdict::Accepted(t.cost, t.operators, t.steps)
+}
+
+pub fn check(
+    words: &[u64],
+    form: u64,
+    bound: u64,
+    ops: &[u64],
+    cells: &[u16],
+    text: &[u8],
+) -> Verdict
+    requires { ⌜ Ready form bound (now words) (now ops) (now cells) × (length (now text) ≤ 65536) ⌝ }
+    ensures { λ r. ⌜ Few r ⌝ }
+    ensures { λ r. ⌜ verdictOf r ≡ checkLines form (tableOf (now (words .entry))) bound (linesOf (now (text .entry))) ⌝ }
+{
+    let mut stack = [0u16; 72];
+    stack[0] = words::start_task(words) as u16;
+    let mut run = begun(words);
+    let mut at: usize = 0;
+    let mut lines: u64 = 0;
+    while at < text.len() {
+        lines += 1;
+        match lines::line_at(text, at) {
+            Line::Shape => {
+                return Verdict::Refused(11, lines);
+            }
+            Line::Comment(next) => {
+                at = next;
+            }
+            Line::Op(kind, number, pos, rest) => {
+                let m = operate(
+                    words,
+                    form,
+                    bound,
+                    ops,
+                    cells,
+                    run,
+                    &mut stack,
+                    kind,
+                    number,
+                    pos,
+                );
+                if m.number != 0 {
+                    return Verdict::Refused(m.number, lines);
+                }
+                let t = m.tally;
+                run = t;
+                at = rest;
+            }
+        }
+    }
+    conclude(words, run, lines)
+}

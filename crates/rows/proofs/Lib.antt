@@ -1,0 +1,3 @@
+pub mod StackLaws
+mod CostLaws
+pub mod RowLaws

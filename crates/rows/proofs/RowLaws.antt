@@ -1,0 +1,245 @@
+-- Rows that are stored one after the other, and what a step asks of each.
+use mathlib.Core.Path.{_≡_, refl, sym, ap, subst, _∙_}
+use mathlib.Core.Bool.{Bool, true, false, cond}
+use mathlib.Core.List.{List, [], _∷_, map}
+use Prim.Native.Nat.{ℕ, zero, suc, _+_, _-_, _*_, _≤_, _<_}
+use native.Mathlib.Decide.{decLe}
+use native.Mathlib.Omega.{arith}
+use lib.Dec.{lit<}
+use lib.ListN.{length, getD, set, take, drop, length-drop}
+use lib.Seq.{sets}
+use borrow.Author.Tests.{lt-ltb, le-ltb, ne-eqb}
+use Rattle.rules.specs.Tables.{Action, Table, actionCount, methodCount, action, method}
+use Rattle.rules.specs.Facts.{Join, noJoin, joinOne, joinFrom, joinOf}
+use Rattle.rules.specs.Progression.{Step, act, mth, prefix, stays, remain, totalCost}
+use Rattle.rules.specs.Operators.{company, leaves, positions, highest, joined}
+use Rattle.laws.specs.Valid.{Valid}
+use Rattle.laws.proofs.StoreLaws.{held, kept, below, kept-less}
+use Rattle.laws.proofs.CountLaws.{prefix-short, highest-low, action-positions, method-positions}
+use Rattle.words.specs.Words.{actionAt}
+use Rattle.rows.specs.Stacks.{stackOf}
+use Rattle.rows.specs.Rows.{Row, rowOf, rowAt, Prepared, RowOk}
+use Rattle.rows.specs.Stores.{stepAt, PreparedTo, Stored, Ended, Left}
+use Rattle.rows.proofs.CostLaws.{prefix-cheap}
+use Rattle.rows.proofs.StackLaws.{stack-height, stack-kept}
+
+-- Four cells that are stored.
+pub put-tail : (cells : List ℕ) (c task stay steps last : ℕ) → c + 12 ≤ length cells → (cells′ : List ℕ)
+    → cells′ ≡ set (set (set (set cells (c + 8) task) (c + 9) stay) (c + 10) steps) (c + 11) last → Ended c task stay steps last cells cells′
+put-tail cells c task stay steps last h cells′ q =
+    let vs : List ℕ = task ∷ stay ∷ steps ∷ last ∷ [] in
+    let p9 : c + 9 ≡ suc (c + 8) = omega arith in
+    let p10 : c + 10 ≡ suc (suc (c + 8)) = omega arith in
+    let p11 : c + 11 ≡ suc (suc (suc (c + 8))) = omega arith in
+    let e : cells′ ≡ sets cells (c + 8) vs = q ∙ (λ i. set (set (set (set cells (c + 8) task) (p9 i) stay) (p10 i) steps) (p11 i) last) in
+    let r : c + 8 + length vs ≤ length cells = omega arith in
+    let at : (i : ℕ) → i < 4 → getD cells′ (c + 8 + i) 0 ≡ getD vs i 0 = λ i l. ap (λ (x : List ℕ). getD x (c + 8 + i) 0) e ∙ held cells vs (c + 8) r i l in
+    let place : (m i : ℕ) → c + m ≡ c + 8 + i → getD cells′ (c + m) 0 ≡ getD cells′ (c + 8 + i) 0 = λ m i e. ap (λ (n : ℕ). getD cells′ n 0) e in
+    record {
+      kept = ap (take (c + 8)) e ∙ kept cells vs (c + 8) r;
+      task = place 8 0 (omega arith) ∙ at 0 (lit< tt);
+      stay = place 9 1 (omega arith) ∙ at 1 (lit< tt);
+      steps = place 10 2 (omega arith) ∙ at 2 (lit< tt);
+      last = place 11 3 (omega arith) ∙ at 3 (lit< tt);
+    }
+
+-- The words of a row.
+abbrev setsOf : Row → Action
+setsOf x = record { needs = x .needs; adds = x .adds; dels = x .dels; cost = x .cost }
+
+abbrev joinedSets : Join → ℕ → Action
+joinedSets j n = record { needs = j .needs; adds = j .adds; dels = j .dels; cost = n }
+
+ended-as : {c x x′ r r′ n n′ top top′ : ℕ} {cells cells′ : List ℕ} → x ≡ x′ → r ≡ r′ → n ≡ n′ → top ≡ top′ → Ended c x r n top cells cells′ → Ended c x′ r′ n′ top′ cells cells′
+ended-as p q u v e = record { kept = e .kept; task = e .task ∙ p; stay = e .stay ∙ q; steps = e .steps ∙ u; last = e .last ∙ v }
+
+-- A row from its words, the tasks that it leaves and its last cells.
+pub stored : (i : ℕ) (x : Row) (words words′ cells cells₁ cells′ : List ℕ)
+    → take (4 * i) words′ ≡ take (4 * i) words
+    → actionAt words′ (4 * i) ≡ setsOf x
+    → length (x .rest) ≤ 8
+    → Left (12 * i) (x .rest) cells cells₁
+    → Ended (12 * i) (x .task) (length (x .rest)) (x .steps) (x .last) cells₁ cells′
+    → Stored i x words cells words′ cells′
+stored i x words words′ cells cells₁ cells′ p a s l e =
+    let rest : stackOf (drop (12 * i) cells′) (getD cells′ (12 * i + 9) 0) ≡ x .rest =
+    ap (stackOf (drop (12 * i) cells′)) (e .stay)
+    ∙ stack-kept cells₁ cells′ (12 * i) (length (x .rest)) (kept-less cells₁ cells′ (12 * i + length (x .rest)) (12 * i + 8) (omega arith) (e .kept))
+    ∙ l .stack in
+    record {
+      row = λ j. record { needs = a j .needs; adds = a j .adds; dels = a j .dels; cost = a j .cost; task = e .task j; steps = e .steps j; last = e .last j; rest = rest j };
+      words-kept = p;
+      cells-kept = kept-less cells₁ cells′ (12 * i) (12 * i + 8) (omega arith) (e .kept) ∙ l .kept;
+    }
+
+-- The row of an action: nothing is left.
+pub action-stored : (f : ℕ) (t : Table) (b k : ℕ) (words words′ cells cells′ : List ℕ) (j : Join) (n : ℕ)
+    → k < actionCount t
+    → j ≡ joinOne noJoin (action t k)
+    → n ≡ action t k .cost
+    → take (4 * k) words′ ≡ take (4 * k) words
+    → actionAt words′ (4 * k) ≡ joinedSets j n
+    → Ended (12 * k) k 0 1 b cells cells′
+    → Stored k (rowOf f t b (act k)) words cells words′ cells′
+unfolding joined joinOf joinFrom stackOf
+action-stored f t b k words words′ cells cells′ j n l q u p e x =
+    let m : n ≡ action t k .cost + 0 = omega arith in
+    stored k (rowOf f t b (act k)) words words′ cells cells cells′ p (e ∙ (λ i. joinedSets (q i) (m i))) (omega arith) (record { kept = refl; stack = refl })
+    (ended-as refl refl refl (sym (action-positions f t b k l)) x)
+
+-- How many subtasks stay.
+stay-length : (f : ℕ) (t : Table) (k : ℕ) → length (stays f t k) ≡ length (method t k .subs) - length (prefix f t k)
+stay-length f t k = length-drop (length (prefix f t k)) (method t k .subs)
+
+-- The row of a method: p of its subtasks are taken with it.
+pub method-stored : (f : ℕ) (t : Table) (b k i : ℕ) (words words′ cells cells₁ cells′ : List ℕ) (j : Join) (n p x r m top : ℕ)
+    → Valid t
+    → k < methodCount t
+    → j ≡ joined f t (mth k)
+    → n ≡ totalCost t (map act (prefix f t k))
+    → p ≡ length (prefix f t k)
+    → x ≡ method t k .head
+    → r ≡ length (method t k .subs) - p
+    → m ≡ p + 1
+    → top ≡ cond (j .dead) 0 (highest b r)
+    → take (4 * i) words′ ≡ take (4 * i) words
+    → actionAt words′ (4 * i) ≡ joinedSets j n
+    → Left (12 * i) (drop p (method t k .subs)) cells cells₁
+    → Ended (12 * i) x r m top cells₁ cells′
+    → Stored i (rowOf f t b (mth k)) words cells words′ cells′
+method-stored f t b k i words words′ cells cells₁ cells′ j n p x r m top v l ej en ep ex er em et w e left x′ =
+    let d = stay-length f t k in
+    let r′ : r ≡ length (stays f t k) = er ∙ ap (λ (q : ℕ). length (method t k .subs) - q) ep ∙ sym d in
+    let m′ : m ≡ suc (length (prefix f t k)) = omega arith in
+    let n′ : n ≡ totalCost t (mth k ∷ map act (prefix f t k)) = omega (arith, en) in
+    let t′ : top ≡ positions f t b (mth k) =
+    et ∙ (λ i. cond (ej i .dead) 0 (highest b ((r′ ∙ d) i))) ∙ sym (method-positions f t b k l) in
+    stored i (rowOf f t b (mth k)) words words′ cells cells₁ cells′ w (e ∙ (λ i. joinedSets (ej i) (n′ i)))
+    (omega (arith, d, v .method k l .count))
+    (subst (λ (q : ℕ). Left (12 * i) (drop q (method t k .subs)) cells cells₁) ep left)
+    (ended-as ex r′ m′ t′ x′)
+
+pub last-low : (d : Bool) (b r : ℕ) → cond d 0 (highest b r) ≤ b
+last-low true b r = omega arith
+last-low false b r = highest-low b r
+
+-- Rows below those that are stored.
+row-kept : (words cells words′ cells′ : List ℕ) (i j : ℕ) → j < i → take (4 * i) words′ ≡ take (4 * i) words → take (12 * i) cells′ ≡ take (12 * i) cells
+    → getD cells (12 * j + 9) 0 ≤ 8 → rowAt words′ cells′ j ≡ rowAt words cells j
+row-kept words cells words′ cells′ i j l p q s =
+    let w : (n : ℕ) → n < 4 * i → getD words′ n 0 ≡ getD words n 0 = below words words′ (4 * i) p in
+    let c : (n : ℕ) → n < 12 * i → getD cells′ n 0 ≡ getD cells n 0 = below cells cells′ (12 * i) q in
+    let n : ℕ = getD cells (12 * j + 9) 0 in
+    let rest : stackOf (drop (12 * j) cells′) (getD cells′ (12 * j + 9) 0) ≡ stackOf (drop (12 * j) cells) n =
+    ap (stackOf (drop (12 * j) cells′)) (c (12 * j + 9) (omega arith))
+    ∙ stack-kept cells cells′ (12 * j) n (kept-less cells cells′ (12 * j + n) (12 * i) (omega arith) q) in
+    λ k. record {
+      needs = w (4 * j) (omega arith) k;
+      adds = w (4 * j + 1) (omega arith) k;
+      dels = w (4 * j + 2) (omega arith) k;
+      cost = w (4 * j + 3) (omega arith) k;
+      task = c (12 * j + 8) (omega arith) k;
+      steps = c (12 * j + 10) (omega arith) k;
+      last = c (12 * j + 11) (omega arith) k;
+      rest = rest k;
+    }
+
+-- ---- rows by their numbers
+
+-- The step of a row, by its number.
+pub step-action : (t : Table) (i : ℕ) → i < actionCount t → stepAt t i ≡ act i
+step-action t i l = rw (lt-ltb i (actionCount t) l)
+
+pub step-method : (t : Table) (k : ℕ) → stepAt t (actionCount t + k) ≡ mth k
+step-method t k =
+    let e : actionCount t + k - actionCount t ≡ k = omega arith in
+    rw (le-ltb (actionCount t + k) (actionCount t) (omega arith)) (ap mth e)
+
+-- What holds of the row of every action and of every method holds of every row.
+by-row : (t : Table) (P : ℕ → Step → Type 0) (i : ℕ) → i < actionCount t + methodCount t → ((k : ℕ) → k < actionCount t → P k (act k))
+    → ((k : ℕ) → k < methodCount t → P (actionCount t + k) (mth k)) → P i (stepAt t i)
+by-row t P i l a m = go (decLe (actionCount t) i)
+  where
+    go : Dec (actionCount t ≤ i) → P i (stepAt t i)
+    go (yes h) =
+        let e : actionCount t + (i - actionCount t) ≡ i = omega arith in
+        subst (λ (n : ℕ). P n (stepAt t n)) e
+        (subst (P (actionCount t + (i - actionCount t))) (sym (step-method t (i - actionCount t))) (m (i - actionCount t) (omega arith)))
+    go (no h) = subst (P i) (sym (step-action t i (omega arith))) (a i (omega arith))
+
+few-left : (f : ℕ) (t : Table) → Valid t → (i : ℕ) → i < actionCount t + methodCount t → length (leaves f t (stepAt t i)) ≤ 8
+few-left f t v i l =
+    by-row t (λ _ x. length (leaves f t x) ≤ 8) i l (λ k h. omega arith) (λ k h. omega (arith, stay-length f t k, v .method k h .count))
+
+-- How many tasks a row leaves, by its cell.
+stay-is : (words cells : List ℕ) (i : ℕ) (x : Row) → rowAt words cells i ≡ x → getD cells (12 * i + 9) 0 ≡ length (x .rest)
+stay-is words cells i x e = sym (stack-height (drop (12 * i) cells) (getD cells (12 * i + 9) 0)) ∙ ap (λ (y : Row). length (y .rest)) e
+
+-- One row more.
+pub prepared-more : (f : ℕ) (t : Table) (b i : ℕ) (words cells words′ cells′ : List ℕ) → Valid t → i < actionCount t + methodCount t
+    → PreparedTo f t b i words cells → Stored i (rowOf f t b (stepAt t i)) words cells words′ cells′ → PreparedTo f t b (i + 1) words′ cells′
+prepared-more f t b i words cells words′ cells′ v l p s j m = go (decLe i j)
+  where
+    go : Dec (i ≤ j) → rowAt words′ cells′ j ≡ rowOf f t b (stepAt t j)
+    go (yes h) = let e : i ≡ j = omega arith in subst (λ (n : ℕ). rowAt words′ cells′ n ≡ rowOf f t b (stepAt t n)) e (s .row)
+    go (no h) =
+        let q = p j (omega arith) in
+        let n = stay-is words cells j (rowOf f t b (stepAt t j)) q in
+        row-kept words cells words′ cells′ i j (omega arith) (s .words-kept) (s .cells-kept) (omega (arith, n, few-left f t v j (omega arith))) ∙ q
+
+pub prepared-all : (f : ℕ) (t : Table) (b : ℕ) (words cells : List ℕ) → Valid t → 3068 ≤ length words → 9204 ≤ length cells
+    → PreparedTo f t b (actionCount t + methodCount t) words cells → Prepared f t b words cells
+prepared-all f t b words cells v w c p =
+    record {
+      words-room = omega (arith, v .head .actions, v .head .methods);
+      cells-room = omega (arith, v .head .actions, v .head .methods);
+      actions = λ k l. p k (omega arith) ∙ ap (rowOf f t b) (step-action t k l);
+      methods = λ k l. p (actionCount t + k) (omega arith) ∙ ap (rowOf f t b) (step-method t k);
+    }
+
+-- ---- what a step asks of a row
+
+-- Small enough, wherever it is.
+record Small (f : ℕ) (t : Table) (b : ℕ) (x : Step) : Type 0 where
+  height : positions f t b x + length (leaves f t x) ≤ 65
+  steps : length (company f t x) ≤ 8
+  cost : totalCost t (x ∷ map act (company f t x)) ≤ 524280
+
+highest-fits : (d : Bool) (b r : ℕ) → b ≤ 64 → r ≤ 8 → cond d 0 (highest b r) + r ≤ 65
+highest-fits true b r l h = omega arith
+highest-fits false b zero l h = omega arith
+highest-fits false b (suc r) l h = rw (ne-eqb (suc r) 0 (omega arith)) (omega arith)
+
+module _ (f : ℕ) (t : Table) (b : ℕ) (v : Valid t) (h : b ≤ 64) where
+  action-small : (k : ℕ) → k < actionCount t → Small f t b (act k)
+  action-small k l =
+      record {
+        height = omega (arith, action-positions f t b k l);
+        steps = omega arith;
+        cost = omega (arith, v .action k l .cost);
+      }
+
+  method-small : (k : ℕ) → k < methodCount t → Small f t b (mth k)
+  method-small k l =
+      let d = stay-length f t k in
+      let n = v .method k l .count in
+      record {
+        height = omega (arith, d, method-positions f t b k l, highest-fits (joined f t (mth k) .dead) b (remain f t k) h (omega (arith, n)));
+        steps = omega (arith, n, prefix-short f t k);
+        cost = omega (arith, prefix-cheap f t k v l);
+      }
+
+pub row-ok : {f : ℕ} {t : Table} {b : ℕ} {ops cells : List ℕ} → Valid t → b ≤ 64 → Prepared f t b ops cells
+    → (i : ℕ) → i < actionCount t + methodCount t → RowOk ops cells i
+row-ok {f} {t} {b} {ops} {cells} v h p i l =
+    let e = by-row t (λ n x. rowAt ops cells n ≡ rowOf f t b x) i l (p .actions) (p .methods) in
+    let s = by-row t (λ _ x. Small f t b x) i l (action-small f t b v h) (method-small f t b v h) in
+    let stay = stay-is ops cells i (rowOf f t b (stepAt t i)) e in
+    record {
+      words = omega (arith, p .words-room);
+      room = omega (arith, p .cells-room);
+      rest = omega (arith, stay, few-left f t v i l);
+      height = omega (arith, stay, ap (λ (x : Row). x .last) e, s .height);
+      steps = omega (arith, ap (λ (x : Row). x .steps) e, s .steps);
+      cost = omega (arith, ap (λ (x : Row). x .cost) e, s .cost);
+    }

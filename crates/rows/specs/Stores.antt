@@ -1,0 +1,43 @@
+-- Rows as they are stored, one after the other.
+use Prim.Native.Nat.{ℕ, _+_, _-_, _*_, _≤_, _<_}
+use mathlib.Core.Path.{_≡_}
+use mathlib.Core.Bool.{cond}
+use mathlib.Core.List.{List}
+use lib.Dec.{ltb}
+use lib.ListN.{length, getD, take, drop}
+use Rattle.rules.specs.Tables.{Table, actionCount}
+use Rattle.rules.specs.Progression.{Step, act, mth}
+use Rattle.rows.specs.Stacks.{stackOf}
+use Rattle.rows.specs.Rows.{Row, rowOf, rowAt}
+
+-- The step of row i.
+abbrev pub stepAt : Table → ℕ → Step
+stepAt t i = cond (ltb i (actionCount t)) (act i) (mth (i - actionCount t))
+
+-- The first n rows are prepared.
+abbrev pub PreparedTo : ℕ → Table → ℕ → ℕ → List ℕ → List ℕ → Type 0
+PreparedTo f t b n words cells = (i : ℕ) → i < n → rowAt words cells i ≡ rowOf f t b (stepAt t i)
+
+-- Room for n rows.
+pub record Room (n : ℕ) (words cells : List ℕ) : Type 0 where
+  pub in-words : 4 * n ≤ length words
+  pub in-cells : 12 * n ≤ length cells
+
+-- Row i is stored, and the rows before it are kept.
+pub record Stored (i : ℕ) (x : Row) (words cells words′ cells′ : List ℕ) : Type 0 where
+  pub row : rowAt words′ cells′ i ≡ x
+  pub words-kept : take (4 * i) words′ ≡ take (4 * i) words
+  pub cells-kept : take (12 * i) cells′ ≡ take (12 * i) cells
+
+-- The last four of the twelve cells from c on are stored, and all before them kept.
+pub record Ended (c x r n top : ℕ) (cells cells′ : List ℕ) : Type 0 where
+  pub kept : take (c + 8) cells′ ≡ take (c + 8) cells
+  pub task : getD cells′ (c + 8) 0 ≡ x
+  pub stay : getD cells′ (c + 9) 0 ≡ r
+  pub steps : getD cells′ (c + 10) 0 ≡ n
+  pub last : getD cells′ (c + 11) 0 ≡ top
+
+-- The tasks are stored from cell c on, the last first, and all before them kept.
+pub record Left (c : ℕ) (tasks cells cells′ : List ℕ) : Type 0 where
+  pub kept : take c cells′ ≡ take c cells
+  pub stack : stackOf (drop c cells′) (length tasks) ≡ tasks

@@ -1,0 +1,143 @@
+// The operators of a table, prepared once as rows.
+ghost use mathlib.Core.Path.{_≡_};
+ghost use mathlib.Core.List.{map};
+ghost use Prim.Native.Nat.{ℕ, _+_, _≤_, _<_};
+ghost use lib.ListN.{length, drop};
+ghost use Rattle.rules.specs.Tables.{actionCount, methodCount, method};
+ghost use Rattle.rules.specs.Progression.{act, mth, prefix, totalCost};
+ghost use Rattle.words.specs.Words.{tableOf, Held};
+ghost use Rattle.rows.specs.Rows.{rowOf, Prepared};
+ghost use Rattle.rows.specs.Stores.{PreparedTo, Room, Stored, Ended, Left};
+use words::Action;
+
+// The last four cells of the row that begins at cell c.
+fn put_tail(cells: &mut [u16], c: usize, task: u16, stay: u16, steps: u16, last: u16)
+    requires { ⌜ c + 12 ≤ length (now cells) ⌝ }
+    ensures { λ _. ⌜ Ended c task stay steps last (now (cells .entry)) (now (cells .exit)) ⌝ }
+{
+    cells[c + 8] = task;
+    cells[c + 9] = stay;
+    cells[c + 10] = steps;
+    cells[c + 11] = last;
+}
+
+// The subtasks of method k from p on in the cells from c on, the last first.
+fn put_rest(words: &[u64], k: usize, p: usize, cells: &mut [u16], c: usize)
+    requires { ⌜ Held (now words) × (k < methodCount (tableOf (now words))) × (p ≤ length (method (tableOf (now words)) k .subs)) × (c + 8 ≤ length (now cells)) ⌝ }
+    ensures { λ _. ⌜ Left c (drop p (method (tableOf (now (words .entry))) k .subs)) (now (cells .entry)) (now (cells .exit)) ⌝ }
+{
+    let n = words::width_of(words, k);
+    let stay = n - p;
+    let mut h: usize = 0;
+    while h < stay {
+        let i = n - (h + 1);
+        cells[c + h] = words::subtask(words, k, i) as u16;
+        h += 1;
+    }
+}
+
+// What the first n subtasks of method k cost, which are its prefix.
+fn prefix_cost(words: &[u64], form: u64, k: usize, n: usize) -> u64
+    requires { ⌜ Held (now words) × (k < methodCount (tableOf (now words))) × (n ≡ length (prefix form (tableOf (now words)) k)) ⌝ }
+    ensures { λ r. ⌜ r ≡ totalCost (tableOf (now (words .entry))) (map act (prefix form (tableOf (now (words .entry))) k)) ⌝ }
+{
+    let mut cost: u64 = 0;
+    let mut j: usize = 0;
+    while j < n {
+        let task = words::subtask(words, k, j);
+        let a = words::action_at(words, task);
+        cost += a.cost;
+        j += 1;
+    }
+    cost
+}
+
+// Action k, which is row k in both forms.
+fn action_row(words: &[u64], bound: u64, k: usize, ops: &mut [u64], cells: &mut [u16])
+    requires { ⌜ Held (now words) × (bound ≤ 64) × (k < actionCount (tableOf (now words))) × Room (k + 1) (now ops) (now cells) ⌝ }
+    ensures { λ _. ⌜ ((f : ℕ) → Stored k (rowOf f (tableOf (now (words .entry))) bound (act k)) (now (ops .entry)) (now (cells .entry)) (now (ops .exit)) (now (cells .exit))) ⌝ }
+{
+    let a = words::action_at(words, k);
+    let join = facts::join_one(facts::no_join(), a);
+    let sets = Action {
+        needs: join.needs,
+        adds: join.adds,
+        dels: join.dels,
+        cost: a.cost,
+    };
+    words::put_action(ops, 4 * k, sets);
+    put_tail(cells, 12 * k, k as u16, 0, 1, bound as u16);
+}
+
+// Method k as row i.
+fn method_row(
+    words: &[u64],
+    form: u64,
+    bound: u64,
+    k: usize,
+    i: usize,
+    ops: &mut [u64],
+    cells: &mut [u16],
+)
+    requires { ⌜ Held (now words) × (bound ≤ 64) × (k < methodCount (tableOf (now words))) × (i < 767) × Room (i + 1) (now ops) (now cells) ⌝ }
+    ensures { λ _. ⌜ Stored i (rowOf form (tableOf (now (words .entry))) bound (mth k)) (now (ops .entry)) (now (cells .entry)) (now (ops .exit)) (now (cells .exit)) ⌝ }
+{
+    let prefix = operators::prefix_of(words, form, k);
+    let join = prefix.join;
+    let sets = Action {
+        needs: join.needs,
+        adds: join.adds,
+        dels: join.dels,
+        cost: prefix_cost(words, form, k, prefix.count),
+    };
+    words::put_action(ops, 4 * i, sets);
+    put_rest(words, k, prefix.count, cells, 12 * i);
+    let task = words::head_of(words, k);
+    let stay = words::width_of(words, k) - prefix.count;
+    let steps = prefix.count + 1;
+    let last = operators::highest_position(join.dead, bound, stay as u64);
+    put_tail(
+        cells,
+        12 * i,
+        task as u16,
+        stay as u16,
+        steps as u16,
+        last as u16,
+    );
+}
+
+// The rows of the actions.
+fn action_rows(words: &[u64], bound: u64, ops: &mut [u64], cells: &mut [u16])
+    requires { ⌜ Held (now words) × (bound ≤ 64) × Room 767 (now ops) (now cells) ⌝ }
+    ensures { λ _. ⌜ ((f : ℕ) → PreparedTo f (tableOf (now (words .entry))) bound (actionCount (tableOf (now (words .entry)))) (now (ops .exit)) (now (cells .exit))) ⌝ }
+{
+    let n = words::action_count(words) as usize;
+    let mut k: usize = 0;
+    while k < n {
+        action_row(words, bound, k, ops, cells);
+        k += 1;
+    }
+}
+
+// The rows of the methods, after those of the actions.
+fn method_rows(words: &[u64], form: u64, bound: u64, ops: &mut [u64], cells: &mut [u16])
+    requires { ⌜ Held (now words) × (bound ≤ 64) × Room 767 (now ops) (now cells) × PreparedTo form (tableOf (now words)) bound (actionCount (tableOf (now words))) (now ops) (now cells) ⌝ }
+    ensures { λ _. ⌜ PreparedTo form (tableOf (now (words .entry))) bound (actionCount (tableOf (now (words .entry))) + methodCount (tableOf (now (words .entry)))) (now (ops .exit)) (now (cells .exit)) ⌝ }
+{
+    let first = words::action_count(words) as usize;
+    let n = words::method_count(words);
+    let mut k: usize = 0;
+    while k < n {
+        method_row(words, form, bound, k, first + k, ops, cells);
+        k += 1;
+    }
+}
+
+// All rows, one after the other: 767 at most, of four words and twelve cells each.
+pub fn prepare(words: &[u64], form: u64, bound: u64, ops: &mut [u64], cells: &mut [u16])
+    requires { ⌜ Held (now words) × (bound ≤ 64) × (3068 ≤ length (now ops)) × (9204 ≤ length (now cells)) ⌝ }
+    ensures { λ _. ⌜ Prepared form (tableOf (now (words .entry))) bound (now (ops .exit)) (now (cells .exit)) ⌝ }
+{
+    action_rows(words, bound, ops, cells);
+    method_rows(words, form, bound, ops, cells);
+}

@@ -1,0 +1,3 @@
+mod PushLaws
+pub mod RowLaws
+pub mod StepLaws

@@ -1,0 +1,22 @@
+-- An action that is stored in four words.
+use mathlib.Core.Path.{_≡_, ap, sym, _∙_}
+use mathlib.Core.List.{List, [], _∷_}
+use Prim.Native.Nat.{ℕ, _+_, _≤_, _<_}
+use native.Mathlib.Nat.{add-zero}
+use native.Mathlib.Numerals.{towards-suc}
+use lib.ListN.{length, getD, take, set}
+use lib.Dec.{lit<}
+use lib.Seq.{sets}
+use Rattle.rules.specs.Tables.{Action}
+use Rattle.laws.proofs.StoreLaws.{held, kept}
+use Rattle.words.specs.Words.{actionAt}
+
+pub put-action : (w : List ℕ) (b : ℕ) (a : Action) → b + 4 ≤ length w → (w′ : List ℕ) → w′ ≡ set (set (set (set w b (a .needs)) (b + 1) (a .adds)) (b + 2) (a .dels)) (b + 3) (a .cost) → (take b w′ ≡ take b w) × (actionAt w′ b ≡ a)
+put-action w b a h w′ q =
+    let vs : List ℕ = a .needs ∷ a .adds ∷ a .dels ∷ a .cost ∷ [] in
+    let e : w′ ≡ sets w b vs = q ∙ simp towards-suc in
+    let at : (i : ℕ) → i < 4 → getD w′ (b + i) 0 ≡ getD vs i 0 = λ i l. ap (λ (x : List ℕ). getD x (b + i) 0) e ∙ held w vs b h i l in
+    let at0 : getD w′ b 0 ≡ a .needs = ap (λ (n : ℕ). getD w′ n 0) (sym (add-zero b)) ∙ at 0 (lit< tt) in (
+      ap (take b) e ∙ kept w vs b h,
+      λ i. record { needs = at0 i; adds = at 1 (lit< tt) i; dels = at 2 (lit< tt) i; cost = at 3 (lit< tt) i },
+    )
