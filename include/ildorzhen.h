@@ -5,7 +5,7 @@
  *
  * A refusal has a number (1 to 16, document 01's table) and a place; with no refusal both are 0, and with a refusal every
  * other number is 0. Nothing has to be checked before a call: each answers for all inputs. Of these calls only
- * ildorzhen_expand_write writes memory, and a refused one writes none. */
+ * ildorzhen_section_write and ildorzhen_expand_write write memory, and a refused one writes none. */
 #ifndef ILDORZHEN_H
 #define ILDORZHEN_H
 
@@ -21,6 +21,20 @@ extern "C" {
 uint64_t ildorzhen_sections_number(uint64_t bound, uint64_t form, const uint8_t *table, size_t table_length);
 uint64_t ildorzhen_sections_place(uint64_t bound, uint64_t form, const uint8_t *table, size_t table_length);
 uint64_t ildorzhen_sections_count(uint64_t bound, uint64_t form, const uint8_t *table, size_t table_length);
+
+/* One section of that problem's text, from byte `at` of the caller's text on; sections count from 0, and bytes of the text
+ * outside the section stay. The length is the section's, at most 2,048.
+ * Refusals: those of the sections, then 10, no such section, and 16, too little room from `at` on, with the bytes to write
+ * as its place; a place past the text's end, up to 2^64 - 1, is no room. A refusal changes no byte.
+ * The first three calls write nothing; ildorzhen_section_write hands back the length written, 0 where it refuses. */
+uint64_t ildorzhen_section_number(uint64_t bound, uint64_t form, const uint8_t *table, size_t table_length,
+                                  uint64_t index, const uint8_t *text, size_t text_length, uint64_t at);
+uint64_t ildorzhen_section_place(uint64_t bound, uint64_t form, const uint8_t *table, size_t table_length,
+                                 uint64_t index, const uint8_t *text, size_t text_length, uint64_t at);
+uint64_t ildorzhen_section_length(uint64_t bound, uint64_t form, const uint8_t *table, size_t table_length,
+                                  uint64_t index, const uint8_t *text, size_t text_length, uint64_t at);
+uint64_t ildorzhen_section_write(uint64_t bound, uint64_t form, const uint8_t *table, size_t table_length,
+                                 uint64_t index, uint8_t *text, size_t text_length, uint64_t at);
 
 /* The least bound, 1 to 64, with which the stack alone can be emptied; 0, with no refusal, where there is none.
  * Refusals: 3 and 5 to 9. */

@@ -1,4 +1,5 @@
-mod OrderLaws
+pub mod OrderLaws
 mod JudgeLaws
 mod WriteLaws
+mod SectionCallLaws
 pub mod Outcomes

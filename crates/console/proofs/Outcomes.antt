@@ -5,6 +5,10 @@ use Prim.Native.Nat.{ℕ}
 use Rattle.console.proofs.sections.ildorzhen_sections_number.Reads as sections-number
 use Rattle.console.proofs.sections.ildorzhen_sections_place.Reads as sections-place
 use Rattle.console.proofs.sections.ildorzhen_sections_count.Reads as sections-count
+use Rattle.console.proofs.one_section.ildorzhen_section_number.Reads as section-number
+use Rattle.console.proofs.one_section.ildorzhen_section_place.Reads as section-place
+use Rattle.console.proofs.one_section.ildorzhen_section_length.Reads as section-length
+use Rattle.console.proofs.one_section.ildorzhen_section_write.Reads as section-write
 use Rattle.console.proofs.least_bound.ildorzhen_least_number.Reads as least-number
 use Rattle.console.proofs.least_bound.ildorzhen_least_place.Reads as least-place
 use Rattle.console.proofs.least_bound.ildorzhen_least_bound.Reads as least-bound
@@ -35,6 +39,21 @@ sections-place-one κs a r q s u h k = h ∙ sym k
 
 pub sections-count-one : OneOutcome sections-count.Post
 sections-count-one κs a r q s u h k = h ∙ sym k
+
+pub section-number-one : OneOutcome section-number.Post
+section-number-one κs a r q s u h k = h ∙ sym k
+
+pub section-place-one : OneOutcome section-place.Post
+section-place-one κs a r q s u h k = h ∙ sym k
+
+pub section-length-one : OneOutcome section-length.Post
+section-length-one κs a r q s u h k = h ∙ sym k
+
+pub section-write-one : OneOutcome section-write.Post
+section-write-one κs a r q s u h k = h .0 ∙ sym (k .0)
+
+pub section-write-bytes-one : OneText (λ κs s. s .1 .1 .1 .1 .0 .now) section-write.Post
+section-write-bytes-one κs a r q s u h k = h .1 ∙ sym (k .1)
 
 pub least-number-one : OneOutcome least-number.Post
 least-number-one κs a r q s u h k = h ∙ sym k

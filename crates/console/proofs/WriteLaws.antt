@@ -8,14 +8,13 @@ use borrow.Author.Tests.{le-leb, lt-leb}
 use lib.Dec.{leb}
 use lib.ListN.{length, take, drop}
 use lib.Seq.{sets, sets-eq}
-use Rattle.rules.specs.Answers.{Answer, answer, refusal, numberOf, placeOf, valueOf, itself}
+use Rattle.rules.specs.Answers.{Answer, answer, refusal, numberOf, placeOf, valueOf, itself, lengthOf}
 use Rattle.rules.specs.Operators.{expandAll}
 use Rattle.rules.specs.Plans.{linesOf, opersOf}
 use Rattle.rules.specs.Checks.{accepted, checkLines, stepBytes}
 use Rattle.rules.specs.Refusals.{roomFor, checkPlan, expandPlan, written}
 use Rattle.words.specs.Words.{tableOf}
 use Rattle.theorems.specs.Demand.{Given}
-use Rattle.theorems.specs.Measures.{lengthOf}
 use Rattle.theorems.proofs.Demand3.{accepted-given, lines-pass, expansion-is, expansion-length}
 use Rattle.console.specs.Judged.{Left}
 
@@ -67,6 +66,6 @@ module _ (b f : ℕ) (s plan words cells : List ℕ) (c o k : ℕ) (e : checkPla
       ∙ ap (written old 0) (sym (in-room (length old) l))
 
 -- A refusal leaves what was lent as it was.
-pub kept : (old : List ℕ) (x : Answer (List ℕ)) {number place : ℕ} → x ≡ refusal number place → old ≡ written old 0 x
+pub kept : (old : List ℕ) (at : ℕ) (x : Answer (List ℕ)) {number place : ℕ} → x ≡ refusal number place → old ≡ written old at x
 unfolding written
-kept old x e = sym (ap (written old 0) e)
+kept old at x e = sym (ap (written old at) e)

@@ -1,10 +1,10 @@
 // Expand a plan into steps.
 ghost use mathlib.Core.Path.{_≡_};
 ghost use lib.ListN.{length};
-ghost use Rattle.rules.specs.Answers.{numberOf, placeOf, valueOf, replyOf};
+ghost use Rattle.rules.specs.Answers.{numberOf, placeOf, valueOf, replyOf, lengthOf};
 ghost use Rattle.rules.specs.Checks.{verdictOf};
 ghost use Rattle.rules.specs.Refusals.{expandPlan, written};
-ghost use Rattle.theorems.specs.Measures.{lengthOf, roomOf};
+ghost use Rattle.theorems.specs.Measures.{roomOf};
 ghost use Rattle.plan.specs.Ready.{Few};
 use rules::Reply;
 use rules::Verdict;

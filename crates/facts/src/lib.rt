@@ -1,9 +1,18 @@
 // Fact sets as masks: bit k stands for fact k. A row of actions is joined by testing, clearing and setting bits.
 ghost use mathlib.Core.Path.{_≡_};
-ghost use Rattle.rules.specs.Facts.{joinOne, noJoin};
+ghost use Prim.Native.Nat.{_<_};
+ghost use Rattle.rules.specs.Facts.{has as Facts·has, joinOne, noJoin};
 ghost use Rattle.words.specs.Words.{actionRead};
 ghost use Rattle.facts.specs.Masks.{joinRead};
 use words::Action;
+
+// Whether fact k is in the set.
+pub fn has(set: u64, k: u64) -> bool
+    requires { ⌜ k < 64 ⌝ }
+    ensures { λ r. ⌜ r ≡ Facts·has set k ⌝ }
+{
+    set >> k & 1 == 1
+}
 
 // The joined sets of some actions, one after the other; `dead`: they can never run so.
 pub struct Join {

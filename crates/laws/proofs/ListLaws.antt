@@ -1,13 +1,13 @@
 -- Laws of lists made from a number.
 use mathlib.Core.Path.{_≡_, refl, ap, ap₂, sym, _∙_}
-use mathlib.Core.List.{List, [], _∷_, _++_}
+use mathlib.Core.List.{List, [], _∷_, _++_, append-nil, append-assoc}
 use mathlib.Core.Logic.{⊎-elim}
 use Prim.Native.Nat.{ℕ, zero, suc, _+_, _*_, _≤_, _<_}
-use native.Mathlib.Nat.{eq-or-lt-of-le, mul-suc}
+use native.Mathlib.Nat.{eq-or-lt-of-le, add-zero, add-suc, mul-suc}
 use native.Mathlib.Numerals.{add-one}
 use native.Mathlib.Omega.{arith}
 use lib.ListN.{length, getD, length-append, List·getD-append}
-use lib.Seq.{getD-at}
+use lib.Seq.{getD-at, getD-append-add}
 use Rattle.rules.specs.Lists.{rows, upto, sumTo}
 
 module _ {A : Type 0} (f : ℕ → A) where
@@ -37,6 +37,14 @@ unfolding upto sumTo
 upto-length f zero = refl
 upto-length f (suc n) = length-append (upto f n) (f n) ∙ ap (λ (m : ℕ). m + length (f n)) (upto-length f n)
 
+-- One row of lists after another.
+pub upto-split : {A : Type 0} (f : ℕ → List A) (m n : ℕ) → upto f (m + n) ≡ upto f m ++ upto (λ k. f (m + k)) n
+unfolding upto
+upto-split f m zero = rw add-zero (sym (append-nil (upto f m)))
+upto-split {A} f m (suc n) =
+    rw add-suc
+    (ap (λ (xs : List A). xs ++ f (m + n)) (upto-split f m n) ∙ append-assoc (upto f m) (upto (λ k. f (m + k)) n) (f (m + n)))
+
 -- Sums that agree, a sum with one more part, and one of equal parts.
 pub sum-same : (f g : ℕ → ℕ) (n : ℕ) → ((k : ℕ) → k < n → f k ≡ g k) → sumTo f n ≡ sumTo g n
 unfolding sumTo
@@ -56,3 +64,31 @@ pub sum-most : (f : ℕ → ℕ) (b : ℕ) → ((k : ℕ) → f k ≤ b) → (n 
 unfolding sumTo
 sum-most f b h zero = omega arith
 sum-most f b h (suc n) = rw mul-suc (omega (arith, sum-most f b h n, h n))
+
+pub sum-split : (f : ℕ → ℕ) (m n : ℕ) → sumTo f (m + n) ≡ sumTo f m + sumTo (λ k. f (m + k)) n
+unfolding sumTo
+sum-split f m zero = rw add-zero (omega arith)
+sum-split f m (suc n) = rw add-suc (omega (arith, sum-split f m n))
+
+-- A part, and all before it, is within the sum.
+pub sum-part : (f : ℕ → ℕ) (n i : ℕ) → i < n → sumTo f i + f i ≤ sumTo f n
+unfolding sumTo
+sum-part f zero i l = absurd (omega arith)
+sum-part f (suc n) i l =
+    ⊎-elim
+    (λ z. rw z (omega arith))
+    (λ m. omega (arith, sum-part f n i m))
+    (eq-or-lt-of-le {n = i} {m = n} (omega arith))
+
+-- What stands at place p of the list i, behind all lists before it.
+pub upto-at : {A : Type 0} (f : ℕ → List A) (d : A) (n i p : ℕ) → i < n → p < length (f i)
+    → getD (upto f n) (sumTo (λ k. length (f k)) i + p) d ≡ getD (f i) p d
+unfolding upto
+upto-at f d zero i p l h = absurd (omega arith)
+upto-at f d (suc n) i p l h =
+    ⊎-elim
+    (λ z. rw z
+    (ap (λ (m : ℕ). getD (upto f n ++ f n) (m + p) d) (sym (upto-length f n)) ∙ getD-append-add (upto f n) (f n) p d))
+    (λ m. List·getD-append (upto f n) (f n) d _ (omega (arith, upto-length f n, sum-part (λ k. length (f k)) n i m))
+    ∙ upto-at f d n i p m h)
+    (eq-or-lt-of-le {n = i} {m = n} (omega arith))

@@ -2,10 +2,20 @@
 use mathlib.Core.Path.{_≡_, refl, sym, ap, ap₂, _∙_, subst}
 use mathlib.Core.Bool.{Bool, true, false, not, _&&_, _||_, Bool·beq}
 use mathlib.Core.List.{List, [], _∷_, map}
-use Prim.Native.Nat.{ℕ, zero, suc, _+_, _*_, _/_, _%_, _<_}
-use native.Mathlib.Nat.{div-add-mod', mod-lt, le-of-suc-le-suc, not-suc-le-zero, zero-lt-suc}
+use Prim.Native.Nat.{ℕ, zero, suc, _+_, _*_, _/_, _%_, _^_, _<_}
+use native.Mathlib.Nat.{
+  div-add-mod',
+  div-div-eq-div-mul,
+  div-one,
+  le-of-suc-le-suc,
+  mod-lt,
+  mul-comm,
+  not-suc-le-zero,
+  pow-suc,
+  zero-lt-suc,
+}
 use lib.Arith.{bin-ind}
-use lib.Dec.{T}
+use lib.Dec.{T, eqb}
 use lib.Bits.{bitAnd, bitOr, bitXor, and-shr, or-shr, xor-shr, and-mod, or-mod, xor-mod}
 use Rattle.rules.specs.Facts.{isSet, has, without}
 use Rattle.laws.proofs.TestLaws.{and-l, and-r}
@@ -55,6 +65,18 @@ pub has-zero : (k : ℕ) → has zero k ≡ false
 unfolding has
 has-zero zero = refl
 has-zero (suc k) = has-zero k
+
+half : (n i : ℕ) → n / 2 ^ suc i ≡ n / 2 / 2 ^ i
+half n i = ap (λ (p : ℕ). n / p) (pow-suc 2 i ∙ mul-comm (2 ^ i) 2) ∙ sym (div-div-eq-div-mul n 2 (2 ^ i))
+
+-- the code's test: the bit k, shifted down
+pub has-bit : (s k : ℕ) → has s k ≡ eqb (s / 2 ^ k % 2) 1
+unfolding has
+has-bit s zero = rw div-one (low (s % 2) (mod-lt s two-pos))
+  where
+    low : (x : ℕ) → x < 2 → isSet x ≡ eqb x 1
+    low x h = digit (λ a b. isSet a ≡ eqb a 1) refl refl refl refl x x h h
+has-bit s (suc k) = rw half (has-bit (s / 2) k)
 
 abbrev less : Bool → Bool → Bool
 less a b = a && not b

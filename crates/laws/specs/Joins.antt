@@ -1,5 +1,5 @@
 -- What actions do one after the other, and what a join does at once.
-use Prim.Native.Nat.{ℕ}
+use Prim.Native.Nat.{ℕ, _^_, _<_}
 use mathlib.Core.Bool.{cond}
 use mathlib.Core.List.{List, [], _∷_}
 use mathlib.Core.Option.{Option, none, some}
@@ -24,3 +24,9 @@ runAll (a ∷ l) s = andThen (runOne a s) (runAll l)
 -- A dead join runs nowhere.
 unfoldable pub runJoin : Join → ℕ → Option ℕ
 runJoin j s = cond (j .dead) none (actOn (j .needs) (j .adds) (j .dels) s)
+
+-- Sets of n facts: no bit at n or above.
+pub record Within (n : ℕ) (j : Join) : Type 0 where
+  pub needs : j .needs < 2 ^ n
+  pub adds : j .adds < 2 ^ n
+  pub dels : j .dels < 2 ^ n

@@ -2,3 +2,4 @@
 pub mod Valid
 pub mod Joins
 pub mod Bounds
+pub mod Steps

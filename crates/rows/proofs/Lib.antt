@@ -1,3 +1,2 @@
 pub mod StackLaws
-mod CostLaws
 pub mod RowLaws

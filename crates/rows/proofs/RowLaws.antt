@@ -2,25 +2,26 @@
 use mathlib.Core.Path.{_≡_, refl, sym, ap, subst, _∙_}
 use mathlib.Core.Bool.{Bool, true, false, cond}
 use mathlib.Core.List.{List, [], _∷_, map}
-use Prim.Native.Nat.{ℕ, zero, suc, _+_, _-_, _*_, _≤_, _<_}
+use Prim.Native.Nat.{ℕ, suc, _+_, _-_, _*_, _≤_, _<_}
 use native.Mathlib.Decide.{decLe}
 use native.Mathlib.Omega.{arith}
 use lib.Dec.{lit<}
-use lib.ListN.{length, getD, set, take, drop, length-drop}
+use lib.ListN.{length, getD, set, take, drop}
 use lib.Seq.{sets}
-use borrow.Author.Tests.{lt-ltb, le-ltb, ne-eqb}
 use Rattle.rules.specs.Tables.{Action, Table, actionCount, methodCount, action, method}
 use Rattle.rules.specs.Facts.{Join, noJoin, joinOne, joinFrom, joinOf}
-use Rattle.rules.specs.Progression.{Step, act, mth, prefix, stays, remain, totalCost}
-use Rattle.rules.specs.Operators.{company, leaves, positions, highest, joined}
+use Rattle.rules.specs.Progression.{act, mth, prefix, stays, totalCost}
+use Rattle.rules.specs.Operators.{positions, highest, joined}
 use Rattle.laws.specs.Valid.{Valid}
 use Rattle.laws.proofs.StoreLaws.{held, kept, below, kept-less}
-use Rattle.laws.proofs.CountLaws.{prefix-short, highest-low, action-positions, method-positions}
+use Rattle.laws.proofs.CountLaws.{highest-low, action-positions, method-positions}
 use Rattle.words.specs.Words.{actionAt}
 use Rattle.rows.specs.Stacks.{stackOf}
 use Rattle.rows.specs.Rows.{Row, rowOf, rowAt, Prepared, RowOk}
-use Rattle.rows.specs.Stores.{stepAt, PreparedTo, Stored, Ended, Left}
-use Rattle.rows.proofs.CostLaws.{prefix-cheap}
+use Rattle.laws.specs.Steps.{stepAt}
+use Rattle.rows.specs.Stores.{PreparedTo, Stored, Ended, Left}
+use Rattle.laws.proofs.StepNumbers.{step-action, step-method, by-step}
+use Rattle.laws.proofs.StepSizes.{stay-length, leaves-few, company-few, cost-low, height-low}
 use Rattle.rows.proofs.StackLaws.{stack-height, stack-kept}
 
 -- Four cells that are stored.
@@ -73,23 +74,19 @@ stored i x words words′ cells cells₁ cells′ p a s l e =
     }
 
 -- The row of an action: nothing is left.
-pub action-stored : (f : ℕ) (t : Table) (b k : ℕ) (words words′ cells cells′ : List ℕ) (j : Join) (n : ℕ)
+pub action-stored : (f : ℕ) (t : Table) (b k i : ℕ) (words words′ cells cells′ : List ℕ) (j : Join) (n : ℕ)
     → k < actionCount t
     → j ≡ joinOne noJoin (action t k)
     → n ≡ action t k .cost
-    → take (4 * k) words′ ≡ take (4 * k) words
-    → actionAt words′ (4 * k) ≡ joinedSets j n
-    → Ended (12 * k) k 0 1 b cells cells′
-    → Stored k (rowOf f t b (act k)) words cells words′ cells′
+    → take (4 * i) words′ ≡ take (4 * i) words
+    → actionAt words′ (4 * i) ≡ joinedSets j n
+    → Ended (12 * i) k 0 1 b cells cells′
+    → Stored i (rowOf f t b (act k)) words cells words′ cells′
 unfolding joined joinOf joinFrom stackOf
-action-stored f t b k words words′ cells cells′ j n l q u p e x =
+action-stored f t b k i words words′ cells cells′ j n l q u p e x =
     let m : n ≡ action t k .cost + 0 = omega arith in
-    stored k (rowOf f t b (act k)) words words′ cells cells cells′ p (e ∙ (λ i. joinedSets (q i) (m i))) (omega arith) (record { kept = refl; stack = refl })
+    stored i (rowOf f t b (act k)) words words′ cells cells cells′ p (e ∙ (λ i. joinedSets (q i) (m i))) (omega arith) (record { kept = refl; stack = refl })
     (ended-as refl refl refl (sym (action-positions f t b k l)) x)
-
--- How many subtasks stay.
-stay-length : (f : ℕ) (t : Table) (k : ℕ) → length (stays f t k) ≡ length (method t k .subs) - length (prefix f t k)
-stay-length f t k = length-drop (length (prefix f t k)) (method t k .subs)
 
 -- The row of a method: p of its subtasks are taken with it.
 pub method-stored : (f : ℕ) (t : Table) (b k i : ℕ) (words words′ cells cells₁ cells′ : List ℕ) (j : Join) (n p x r m top : ℕ)
@@ -146,33 +143,8 @@ row-kept words cells words′ cells′ i j l p q s =
 
 -- ---- rows by their numbers
 
--- The step of a row, by its number.
-pub step-action : (t : Table) (i : ℕ) → i < actionCount t → stepAt t i ≡ act i
-step-action t i l = rw (lt-ltb i (actionCount t) l)
-
-pub step-method : (t : Table) (k : ℕ) → stepAt t (actionCount t + k) ≡ mth k
-step-method t k =
-    let e : actionCount t + k - actionCount t ≡ k = omega arith in
-    rw (le-ltb (actionCount t + k) (actionCount t) (omega arith)) (ap mth e)
-
--- What holds of the row of every action and of every method holds of every row.
-by-row : (t : Table) (P : ℕ → Step → Type 0) (i : ℕ) → i < actionCount t + methodCount t → ((k : ℕ) → k < actionCount t → P k (act k))
-    → ((k : ℕ) → k < methodCount t → P (actionCount t + k) (mth k)) → P i (stepAt t i)
-by-row t P i l a m = go (decLe (actionCount t) i)
-  where
-    go : Dec (actionCount t ≤ i) → P i (stepAt t i)
-    go (yes h) =
-        let e : actionCount t + (i - actionCount t) ≡ i = omega arith in
-        subst (λ (n : ℕ). P n (stepAt t n)) e
-        (subst (P (actionCount t + (i - actionCount t))) (sym (step-method t (i - actionCount t))) (m (i - actionCount t) (omega arith)))
-    go (no h) = subst (P i) (sym (step-action t i (omega arith))) (a i (omega arith))
-
-few-left : (f : ℕ) (t : Table) → Valid t → (i : ℕ) → i < actionCount t + methodCount t → length (leaves f t (stepAt t i)) ≤ 8
-few-left f t v i l =
-    by-row t (λ _ x. length (leaves f t x) ≤ 8) i l (λ k h. omega arith) (λ k h. omega (arith, stay-length f t k, v .method k h .count))
-
 -- How many tasks a row leaves, by its cell.
-stay-is : (words cells : List ℕ) (i : ℕ) (x : Row) → rowAt words cells i ≡ x → getD cells (12 * i + 9) 0 ≡ length (x .rest)
+pub stay-is : (words cells : List ℕ) (i : ℕ) (x : Row) → rowAt words cells i ≡ x → getD cells (12 * i + 9) 0 ≡ length (x .rest)
 stay-is words cells i x e = sym (stack-height (drop (12 * i) cells) (getD cells (12 * i + 9) 0)) ∙ ap (λ (y : Row). length (y .rest)) e
 
 -- One row more.
@@ -185,7 +157,7 @@ prepared-more f t b i words cells words′ cells′ v l p s j m = go (decLe i j)
     go (no h) =
         let q = p j (omega arith) in
         let n = stay-is words cells j (rowOf f t b (stepAt t j)) q in
-        row-kept words cells words′ cells′ i j (omega arith) (s .words-kept) (s .cells-kept) (omega (arith, n, few-left f t v j (omega arith))) ∙ q
+        row-kept words cells words′ cells′ i j (omega arith) (s .words-kept) (s .cells-kept) (omega (arith, n, leaves-few f t v j (omega arith))) ∙ q
 
 pub prepared-all : (f : ℕ) (t : Table) (b : ℕ) (words cells : List ℕ) → Valid t → 3068 ≤ length words → 9204 ≤ length cells
     → PreparedTo f t b (actionCount t + methodCount t) words cells → Prepared f t b words cells
@@ -199,47 +171,16 @@ prepared-all f t b words cells v w c p =
 
 -- ---- what a step asks of a row
 
--- Small enough, wherever it is.
-record Small (f : ℕ) (t : Table) (b : ℕ) (x : Step) : Type 0 where
-  height : positions f t b x + length (leaves f t x) ≤ 65
-  steps : length (company f t x) ≤ 8
-  cost : totalCost t (x ∷ map act (company f t x)) ≤ 524280
-
-highest-fits : (d : Bool) (b r : ℕ) → b ≤ 64 → r ≤ 8 → cond d 0 (highest b r) + r ≤ 65
-highest-fits true b r l h = omega arith
-highest-fits false b zero l h = omega arith
-highest-fits false b (suc r) l h = rw (ne-eqb (suc r) 0 (omega arith)) (omega arith)
-
-module _ (f : ℕ) (t : Table) (b : ℕ) (v : Valid t) (h : b ≤ 64) where
-  action-small : (k : ℕ) → k < actionCount t → Small f t b (act k)
-  action-small k l =
-      record {
-        height = omega (arith, action-positions f t b k l);
-        steps = omega arith;
-        cost = omega (arith, v .action k l .cost);
-      }
-
-  method-small : (k : ℕ) → k < methodCount t → Small f t b (mth k)
-  method-small k l =
-      let d = stay-length f t k in
-      let n = v .method k l .count in
-      record {
-        height = omega (arith, d, method-positions f t b k l, highest-fits (joined f t (mth k) .dead) b (remain f t k) h (omega (arith, n)));
-        steps = omega (arith, n, prefix-short f t k);
-        cost = omega (arith, prefix-cheap f t k v l);
-      }
-
 pub row-ok : {f : ℕ} {t : Table} {b : ℕ} {ops cells : List ℕ} → Valid t → b ≤ 64 → Prepared f t b ops cells
     → (i : ℕ) → i < actionCount t + methodCount t → RowOk ops cells i
 row-ok {f} {t} {b} {ops} {cells} v h p i l =
-    let e = by-row t (λ n x. rowAt ops cells n ≡ rowOf f t b x) i l (p .actions) (p .methods) in
-    let s = by-row t (λ _ x. Small f t b x) i l (action-small f t b v h) (method-small f t b v h) in
+    let e = by-step t (λ n x. rowAt ops cells n ≡ rowOf f t b x) i l (p .actions) (p .methods) in
     let stay = stay-is ops cells i (rowOf f t b (stepAt t i)) e in
     record {
       words = omega (arith, p .words-room);
       room = omega (arith, p .cells-room);
-      rest = omega (arith, stay, few-left f t v i l);
-      height = omega (arith, stay, ap (λ (x : Row). x .last) e, s .height);
-      steps = omega (arith, ap (λ (x : Row). x .steps) e, s .steps);
-      cost = omega (arith, ap (λ (x : Row). x .cost) e, s .cost);
+      rest = omega (arith, stay, leaves-few f t v i l);
+      height = omega (arith, stay, ap (λ (x : Row). x .last) e, height-low f t v i l b h);
+      steps = omega (arith, ap (λ (x : Row). x .steps) e, company-few f t v i l);
+      cost = omega (arith, ap (λ (x : Row). x .cost) e, cost-low f t v i l);
     }

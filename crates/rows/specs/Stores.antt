@@ -1,18 +1,12 @@
 -- Rows as they are stored, one after the other.
-use Prim.Native.Nat.{ℕ, _+_, _-_, _*_, _≤_, _<_}
+use Prim.Native.Nat.{ℕ, _+_, _*_, _≤_, _<_}
 use mathlib.Core.Path.{_≡_}
-use mathlib.Core.Bool.{cond}
 use mathlib.Core.List.{List}
-use lib.Dec.{ltb}
 use lib.ListN.{length, getD, take, drop}
-use Rattle.rules.specs.Tables.{Table, actionCount}
-use Rattle.rules.specs.Progression.{Step, act, mth}
+use Rattle.rules.specs.Tables.{Table}
+use Rattle.laws.specs.Steps.{stepAt}
 use Rattle.rows.specs.Stacks.{stackOf}
 use Rattle.rows.specs.Rows.{Row, rowOf, rowAt}
-
--- The step of row i.
-abbrev pub stepAt : Table → ℕ → Step
-stepAt t i = cond (ltb i (actionCount t)) (act i) (mth (i - actionCount t))
 
 -- The first n rows are prepared.
 abbrev pub PreparedTo : ℕ → Table → ℕ → ℕ → List ℕ → List ℕ → Type 0

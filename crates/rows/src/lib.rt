@@ -5,8 +5,9 @@ ghost use Prim.Native.Nat.{ℕ, _+_, _≤_, _<_};
 ghost use lib.ListN.{length, drop};
 ghost use Rattle.rules.specs.Tables.{actionCount, methodCount, method};
 ghost use Rattle.rules.specs.Progression.{act, mth, prefix, totalCost};
+ghost use Rattle.laws.specs.Steps.{stepAt};
 ghost use Rattle.words.specs.Words.{tableOf, Held};
-ghost use Rattle.rows.specs.Rows.{rowOf, Prepared};
+ghost use Rattle.rows.specs.Rows.{rowOf, rowAt, Prepared};
 ghost use Rattle.rows.specs.Stores.{PreparedTo, Room, Stored, Ended, Left};
 use words::Action;
 
@@ -52,10 +53,10 @@ fn prefix_cost(words: &[u64], form: u64, k: usize, n: usize) -> u64
     cost
 }
 
-// Action k, which is row k in both forms.
-fn action_row(words: &[u64], bound: u64, k: usize, ops: &mut [u64], cells: &mut [u16])
-    requires { ⌜ Held (now words) × (bound ≤ 64) × (k < actionCount (tableOf (now words))) × Room (k + 1) (now ops) (now cells) ⌝ }
-    ensures { λ _. ⌜ ((f : ℕ) → Stored k (rowOf f (tableOf (now (words .entry))) bound (act k)) (now (ops .entry)) (now (cells .entry)) (now (ops .exit)) (now (cells .exit))) ⌝ }
+// Action k as row i, in both forms.
+fn action_row(words: &[u64], bound: u64, k: usize, i: usize, ops: &mut [u64], cells: &mut [u16])
+    requires { ⌜ Held (now words) × (bound ≤ 64) × (k < actionCount (tableOf (now words))) × (i < 767) × Room (i + 1) (now ops) (now cells) ⌝ }
+    ensures { λ _. ⌜ ((f : ℕ) → Stored i (rowOf f (tableOf (now (words .entry))) bound (act k)) (now (ops .entry)) (now (cells .entry)) (now (ops .exit)) (now (cells .exit))) ⌝ }
 {
     let a = words::action_at(words, k);
     let join = facts::join_one(facts::no_join(), a);
@@ -65,8 +66,8 @@ fn action_row(words: &[u64], bound: u64, k: usize, ops: &mut [u64], cells: &mut 
         dels: join.dels,
         cost: a.cost,
     };
-    words::put_action(ops, 4 * k, sets);
-    put_tail(cells, 12 * k, k as u16, 0, 1, bound as u16);
+    words::put_action(ops, 4 * i, sets);
+    put_tail(cells, 12 * i, k as u16, 0, 1, bound as u16);
 }
 
 // Method k as row i.
@@ -114,7 +115,7 @@ fn action_rows(words: &[u64], bound: u64, ops: &mut [u64], cells: &mut [u16])
     let n = words::action_count(words) as usize;
     let mut k: usize = 0;
     while k < n {
-        action_row(words, bound, k, ops, cells);
+        action_row(words, bound, k, k, ops, cells);
         k += 1;
     }
 }
@@ -131,6 +132,20 @@ fn method_rows(words: &[u64], form: u64, bound: u64, ops: &mut [u64], cells: &mu
         method_row(words, form, bound, k, first + k, ops, cells);
         k += 1;
     }
+}
+
+// Step i alone, as row 0.
+pub fn one_row(words: &[u64], form: u64, bound: u64, i: usize, ops: &mut [u64], cells: &mut [u16])
+    requires { ⌜ Held (now words) × (bound ≤ 64) × (i < actionCount (tableOf (now words)) + methodCount (tableOf (now words))) × Room 1 (now ops) (now cells) ⌝ }
+    ensures { λ _. ⌜ rowAt (now (ops .exit)) (now (cells .exit)) 0 ≡ rowOf form (tableOf (now (words .entry))) bound (stepAt (tableOf (now (words .entry))) i) ⌝ }
+    ensures { λ _. ⌜ (length (now (ops .exit)) ≡ length (now (ops .entry))) × (length (now (cells .exit)) ≡ length (now (cells .entry))) ⌝ }
+{
+    let first = words::action_count(words) as usize;
+    if i < first {
+        action_row(words, bound, i, 0, ops, cells);
+        return;
+    }
+    method_row(words, form, bound, i - first, 0, ops, cells);
 }
 
 // All rows, one after the other: 767 at most, of four words and twelve cells each.

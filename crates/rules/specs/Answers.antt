@@ -1,6 +1,8 @@
 -- What an entry answers, and the paper's numbers for each case ("Refusal numbers").
 use Prim.Native.Nat.{ℕ}
 use mathlib.Core.Bool.{Bool, cond}
+use mathlib.Core.List.{List}
+use lib.ListN.{length}
 use Rattle.rules.specs.declared.Reply.{Reply}
 use Rattle.rules.specs.declared.Reply.the-variants.{Value, Refused}
 
@@ -34,6 +36,11 @@ check passes number place rest = cond passes rest (refusal number place)
 abbrev pub after : {A B : Type 0} → Answer A → (A → Answer B) → Answer B
 after (answer a) f = f a
 after (refusal number place) f = refusal number place
+
+-- A text by its length.
+abbrev pub lengthOf : Answer (List ℕ) → Answer ℕ
+lengthOf (answer x) = answer (length x)
+lengthOf (refusal number place) = refusal number place
 
 -- What the code's reply says.
 abbrev pub replyOf : Reply → Answer ℕ

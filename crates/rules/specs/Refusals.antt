@@ -8,7 +8,7 @@ use Rattle.rules.specs.Answers.{Answer, answer, refusal, check, after}
 use Rattle.rules.specs.Readings.{Reading, got, bad}
 use Rattle.rules.specs.Tables.{Table, decode}
 use Rattle.rules.specs.Operators.{expandAll}
-use Rattle.rules.specs.Sections.{sectionsOf}
+use Rattle.rules.specs.Sections.{sectionsOf, problemText}
 use Rattle.rules.specs.Plans.{linesOf, opersOf}
 use Rattle.rules.specs.Checks.{Tally, checkLines, stepBytes}
 use Rattle.rules.specs.LeastBounds.{leastBound}
@@ -41,12 +41,20 @@ roomFor size at x = check (leb (at + length x) size) 16 (length x) (answer x)
 unfoldable pub countSections : ℕ → ℕ → List ℕ → Answer ℕ
 countSections b f s = boundFormed b f (tableFits s (withTable s (λ t. answer (length (sectionsOf f t b)))))
 
+-- The text of section k: 10 "no such section".
+abbrev pub chosen : List (List ℕ) → ℕ → Answer (List ℕ)
+chosen sections k = check (ltb k (length sections)) 10 0 (answer (getD sections k []))
+
 -- One section, to be written from the place `at` on of a text of `size` bytes: 1 2 3 5-9, 10 "no such section", 16.
 unfoldable pub oneSection : ℕ → ℕ → List ℕ → ℕ → ℕ → ℕ → Answer (List ℕ)
 oneSection b f s k size at =
     boundFormed b f
     (tableFits s
-    (withTable s (λ t. check (ltb k (length (sectionsOf f t b))) 10 0 (roomFor size at (getD (sectionsOf f t b) k [])))))
+    (withTable s (λ t. after (chosen (sectionsOf f t b) k) (roomFor size at))))
+
+-- The whole problem, as the emitting program writes it: 1 2 3 5-9.
+unfoldable pub wholeProblem : ℕ → ℕ → List ℕ → Answer (List ℕ)
+wholeProblem b f s = boundFormed b f (tableFits s (withTable s (λ t. answer (problemText f t b))))
 
 -- Check a plan: 1 2 3 4 5-9, 11 to 15.
 unfoldable pub checkPlan : ℕ → ℕ → List ℕ → List ℕ → Answer Tally

@@ -76,13 +76,12 @@ abbrev pub topNext : ℕ → List ℕ → ℕ
 topNext i rest = i + length rest - 1
 
 -- "Position i gets the method's last subtask; it gets none if r = 0 or the operator is an action operator."
-abbrev pub bottomNext : Table → List ℕ → ℕ
-bottomNext t rest = getD rest (length rest - 1) (none t)
+abbrev pub bottomNext : ℕ → List ℕ → ℕ
+bottomNext free rest = getD rest (length rest - 1) free
 
 -- "Positions i + 1 to i + r − 1 get the others, the first remaining subtask highest; their earlier value is written −1."
-abbrev pub pushLines : Table → ℕ → List ℕ → List (List ℕ)
-pushLines t i rest =
-    rows (λ j. effectLine (factCount t + i + suc j) (bytes "-1") (getD rest (length rest - 2 - j) 0)) (length rest - 1)
+abbrev pub pushLines : ℕ → ℕ → List ℕ → List (List ℕ)
+pushLines top i rest = rows (λ j. effectLine (top + i + suc j) (bytes "-1") (getD rest (length rest - 2 - j) 0)) (length rest - 1)
 
 -- "A needed fact that isn't deleted is a prevail line, also where it is added."
 abbrev pub kept : Join → ℕ
@@ -95,19 +94,20 @@ altered j = bitOr (j .dels) (without (j .adds) (j .needs))
 abbrev pub factLine : Join → ℕ → List ℕ
 factLine j k = effectLine k (cond (has (j .needs) k) (bytes "0") (bytes "-1")) (cond (has (j .dels) k) 1 0)
 
--- "Top and position i are prevail lines where their value does not change." "Lines rise by variable."
-abbrev pub prevails : Table → Join → ℕ → ℕ → List ℕ → List (List ℕ)
-prevails t j task i rest =
-    map (λ k. valueLine k 0) (membersOf (factCount t) (kept j))
-    ++ cond (eqb (topNext i rest) i) (valueLine (factCount t) i ∷ []) []
-    ++ cond (eqb (bottomNext t rest) task) (valueLine (factCount t + i) task ∷ []) []
+-- "Top and position i are prevail lines where their value does not change." "Lines rise by variable." The top's variable has the
+-- number of facts, and `free` is the value of a position that holds no task.
+abbrev pub prevails : ℕ → ℕ → Join → ℕ → ℕ → List ℕ → List (List ℕ)
+prevails top free j task i rest =
+    map (λ k. valueLine k 0) (membersOf top (kept j))
+    ++ cond (eqb (topNext i rest) i) (valueLine top i ∷ []) []
+    ++ cond (eqb (bottomNext free rest) task) (valueLine (top + i) task ∷ []) []
 
-abbrev pub effects : Table → Join → ℕ → ℕ → List ℕ → List (List ℕ)
-effects t j task i rest =
-    map (factLine j) (membersOf (factCount t) (altered j))
-    ++ cond (eqb (topNext i rest) i) [] (effectLine (factCount t) (digits i) (topNext i rest) ∷ [])
-    ++ cond (eqb (bottomNext t rest) task) [] (effectLine (factCount t + i) (digits task) (bottomNext t rest) ∷ [])
-    ++ pushLines t i rest
+abbrev pub effects : ℕ → ℕ → Join → ℕ → ℕ → List ℕ → List (List ℕ)
+effects top free j task i rest =
+    map (factLine j) (membersOf top (altered j))
+    ++ cond (eqb (topNext i rest) i) [] (effectLine top (digits i) (topNext i rest) ∷ [])
+    ++ cond (eqb (bottomNext free rest) task) [] (effectLine (top + i) (digits task) (bottomNext free rest) ∷ [])
+    ++ pushLines top i rest
 
 abbrev pub nameOf : Step → List ℕ
 nameOf (act k) = bytes "a" ++ digits k
@@ -117,13 +117,19 @@ nameOf (mth k) = bytes "m" ++ digits k
 abbrev pub counted : List (List ℕ) → List ℕ
 counted ls = line (digits (length ls) ∷ []) ++ concat ls
 
+-- An operator that takes `task` off position i and leaves `rest` in its place.
+unfoldable pub operatorLines : ℕ → ℕ → List ℕ → Join → ℕ → ℕ → List ℕ → ℕ → List ℕ
+operatorLines top free name j task i rest cost =
+    bytes "begin_operator\n" ++ line (name ∷ digits i ∷ [])
+    ++ counted (prevails top free j task i rest)
+    ++ counted (effects top free j task i rest)
+    ++ line (digits cost ∷ [])
+    ++ bytes "end_operator\n"
+
 unfoldable pub operatorText : ℕ → Table → Operator → List ℕ
 operatorText f t o =
-    bytes "begin_operator\n" ++ line (nameOf (o .what) ∷ digits (o .at) ∷ [])
-    ++ counted (prevails t (joined f t (o .what)) (taskOf t (o .what)) (o .at) (leaves f t (o .what)))
-    ++ counted (effects t (joined f t (o .what)) (taskOf t (o .what)) (o .at) (leaves f t (o .what)))
-    ++ line (digits (totalCost t (expand f t o)) ∷ [])
-    ++ bytes "end_operator\n"
+    operatorLines (factCount t) (none t) (nameOf (o .what)) (joined f t (o .what)) (taskOf t (o .what)) (o .at) (leaves f t (o .what))
+    (totalCost t (expand f t o))
 
 -- ---- "Last: axiom count 0." All sections in order, and the whole text.
 

@@ -1,15 +1,20 @@
 -- Where an operator exists, as laws on numbers.
-use Prim.Native.Nat.{ℕ, _+_, _-_, _≤_, _<_}
+use Prim.Native.Nat.{ℕ, zero, suc, _+_, _-_, _≤_, _<_}
 use mathlib.Core.Logic.{_↔_}
 use mathlib.Core.Path.{_≡_, refl}
+use mathlib.Core.List.{[], _∷_}
 use mathlib.Core.Bool.{Bool, true, false, not, cond}
 use native.Mathlib.Omega.{arith}
 use lib.Dec.{T, leb, ltb, eqb, leb→le, le→leb, ltb→lt, T-not}
-use borrow.Author.Tests.{lt-ltb, eqb-true, eqb-false}
-use Rattle.rules.specs.Tables.{Table, actionCount, methodCount}
-use Rattle.rules.specs.Facts.{joinFrom, joinOf}
-use Rattle.rules.specs.Progression.{act, mth, remain}
-use Rattle.rules.specs.Operators.{joined, highest, positions, emitted}
+use borrow.Author.Tests.{lt-ltb, le-ltb, eq-eqb, eqb-true, eqb-false}
+use Rattle.rules.specs.Lists.{rows}
+use Rattle.rules.specs.Tables.{Table, factCount, actionCount, methodCount, method}
+use Rattle.rules.specs.Facts.{without, joinFrom, joinOf, membersFrom, membersOf}
+use Rattle.rules.specs.Progression.{act, mth, prefix, remain}
+use Rattle.rules.specs.Operators.{joined, taskOf, leaves, highest, positions, emitted}
+use Rattle.rules.specs.Sections.{none, effects}
+use Rattle.laws.specs.Valid.{Valid}
+use Rattle.laws.proofs.SetLaws.{has-zero}
 use Rattle.laws.proofs.TestLaws.{and-l, and-r, and-i, cond-false}
 
 module _ (b r i : ℕ) where
@@ -85,3 +90,20 @@ module _ (f : ℕ) (t : Table) (b k i : ℕ) where
 pub plain-living : (t : Table) (k : ℕ) → joined 0 t (mth k) .dead ≡ false
 unfolding joined joinOf joinFrom
 plain-living t k = refl
+
+-- "A method c to c alone has no effects in any form and is written so."
+no-members : (n k : ℕ) → membersFrom n k 0 ≡ []
+unfolding membersFrom
+no-members zero k = refl
+no-members (suc n) k = rw (has-zero k) (no-members n (suc k))
+
+alone : (f : ℕ) (t : Table) (k : ℕ) → Valid t → k < methodCount t → method t k .subs ≡ method t k .head ∷ [] → prefix f t k ≡ []
+alone zero t k v l e = refl
+alone (suc f) t k v l e = rw (e, le-ltb (method t k .head) (actionCount t) (v .method k l .low))
+
+pub idle : (f : ℕ) (t : Table) (k i : ℕ) → Valid t → k < methodCount t → method t k .subs ≡ method t k .head ∷ []
+    → effects (factCount t) (none t) (joined f t (mth k)) (taskOf t (mth k)) i (leaves f t (mth k)) ≡ []
+unfolding joined joinOf joinFrom rows membersOf without
+idle f t k i v l e =
+    let same : i + 1 - 1 ≡ i = omega arith in
+    rw (alone f t k v l e, e, no-members (factCount t) 0, eq-eqb (i + 1 - 1) i same, eq-eqb (method t k .head) (method t k .head) refl)

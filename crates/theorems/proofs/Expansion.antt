@@ -7,7 +7,7 @@ use native.Mathlib.Nat.{zero-add}
 use native.Mathlib.Omega.{arith}
 use lib.ListN.{length}
 use lib.Dec.{leb}
-use Rattle.rules.specs.Answers.{Answer, answer, refusal, check, after}
+use Rattle.rules.specs.Answers.{Answer, answer, refusal, check, after, lengthOf}
 use Rattle.rules.specs.Readings.{Reading, got, bad}
 use Rattle.rules.specs.Tables.{Table, decode}
 use Rattle.rules.specs.Operators.{expandAll}
@@ -15,7 +15,7 @@ use Rattle.rules.specs.Plans.{linesOf, opersOf}
 use Rattle.rules.specs.Checks.{Tally, checkLines, stepBytes}
 use Rattle.rules.specs.Refusals.{readOf, roomFor, checkPlan, expandPlan}
 use Rattle.theorems.specs.Demand.{Given}
-use Rattle.theorems.specs.Measures.{lengthOf, roomOf}
+use Rattle.theorems.specs.Measures.{roomOf}
 use Rattle.theorems.proofs.Demand3.{accepted-given, expansion-is, expansion-length}
 
 -- A refused plan is refused by the expansion, with the same number and place.

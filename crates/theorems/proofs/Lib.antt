@@ -11,3 +11,4 @@ pub mod Demand3
 pub mod Expansion
 pub mod Examples
 pub mod Listing
+pub mod SectionSizes

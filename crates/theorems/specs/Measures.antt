@@ -1,15 +1,8 @@
 -- What the calls for number, place and length of an expansion say, from the answer of the check alone.
 use Prim.Native.Nat.{ℕ, _*_}
-use mathlib.Core.List.{List}
-use lib.ListN.{length}
 use lib.Dec.{leb}
 use Rattle.rules.specs.Answers.{Answer, answer, refusal, check}
 use Rattle.rules.specs.Checks.{Tally}
-
--- A text by its length.
-abbrev pub lengthOf : Answer (List ℕ) → Answer ℕ
-lengthOf (answer x) = answer (length x)
-lengthOf (refusal number place) = refusal number place
 
 -- Two bytes a step, where there is room for them.
 abbrev pub roomOf : ℕ → Answer Tally → Answer ℕ

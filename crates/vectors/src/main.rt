@@ -1,4 +1,4 @@
-// Inputs of the checking program, one after the other, each with its length before it in two bytes, low first.
+// Inputs of the two programs, one after the other: which program it is for, its length in two bytes, low first, and the input.
 ghost use Prim.Native.Nat.{_<_};
 ghost use lib.ListN.{length};
 use libc::STDIN_FILENO;
@@ -6,24 +6,28 @@ use libc::STDIN_FILENO;
 fn main() {
     let mut all = [0u8; 65536];
     let n = io::read_full(STDIN_FILENO, &mut all);
-    judge_all(&all[..n]);
+    run_all(&all[..n]);
 }
 
-fn judge_all(all: &[u8]) {
+fn run_all(all: &[u8]) {
     let mut at = 0;
     while at < all.len() {
-        at = judge_one(all, at);
+        at = run_one(all, at);
     }
 }
 
-// The input whose length stands at a place; where the next one's does.
-fn judge_one(all: &[u8], at: usize) -> usize
+// The input whose letter stands at a place; where the next one's does.
+fn run_one(all: &[u8], at: usize) -> usize
     requires { ⌜ at < length (now all) ⌝ }
     ensures { λ r. ⌜ at < r ⌝ }
 {
-    let size = checking::two_bytes(checking::byte(all, at), checking::byte(all, at + 1));
-    let start = checking::least(at + 2, all.len());
-    let end = start + checking::least(size, all.len() - start);
-    checking::judge(&all[start..end]);
+    let size = report::two_bytes(report::byte(all, at + 1), report::byte(all, at + 2));
+    let start = report::smaller(at + 3, all.len());
+    let end = start + report::smaller(size, all.len() - start);
+    if all[at] == b'c' {
+        checking::judge(&all[start..end]);
+        return end;
+    }
+    emission::emit(&all[start..end]);
     end
 }

@@ -19,6 +19,14 @@ pub fn action_count(words: &[u64]) -> u64
     words[1]
 }
 
+// Actions and abstract tasks.
+pub fn task_count(words: &[u64]) -> u64
+    requires { ⌜ Held (now words) ⌝ }
+    ensures { λ r. ⌜ r ≡ taskCount (tableOf (now (words .entry))) ⌝ }
+{
+    words[1] + words[2]
+}
+
 pub fn method_count(words: &[u64]) -> usize
     requires { ⌜ Held (now words) ⌝ }
     ensures { λ r. ⌜ r ≡ methodCount (tableOf (now (words .entry))) ⌝ }

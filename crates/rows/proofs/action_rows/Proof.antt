@@ -7,7 +7,8 @@ use Rattle.rules.specs.Progression.{Step}
 use Rattle.words.specs.Words.{tableOf}
 use Rattle.rows.specs.Rows.{rowOf}
 use Rattle.rows.specs.Stores.{PreparedTo, Stored}
-use Rattle.rows.proofs.RowLaws.{step-action, prepared-more}
+use Rattle.laws.proofs.StepNumbers.{step-action}
+use Rattle.rows.proofs.RowLaws.{prepared-more}
 use borrow.Author.Needs.{needs}
 use Rattle.rows.proofs.action_rows.Statement.{statement}
 use Rattle.rows.proofs.action_rows.Tie as tie
@@ -37,6 +38,7 @@ action-row-requires c κs =
       pre .0,
       pre .1,
       omega (arith, l .inv .0),
+      omega (arith, few, l .inv .0),
       record { in-words = omega (arith, few, l .inv .0, l .inv .2, pre .2 .in-words); in-cells = omega (arith, few, l .inv .0, l .inv .3, pre .2 .in-cells) },
     )
 
@@ -52,13 +54,13 @@ loop-again c =
     let l = c .before .before .before .before .before .before .before .before .loop in
     let row = c .before .before .before .before .action-row in
     let t = tableOf (a .words .now) in
-    let ops = row .last .1 .1 .1 .0 in
-    let cells = row .last .1 .1 .1 .1 .0 in
+    let ops = row .last .1 .1 .1 .1 .0 in
+    let cells = row .last .1 .1 .1 .1 .1 .0 in
     let k : l .k < actionCount t = omega (arith, l .inv .0) in (
       l .inv .0,
       omega arith,
-      row .kept .1 .1 .1 .0 ∙ l .inv .2,
-      row .kept .1 .1 .1 .1 .0 ∙ l .inv .3,
+      row .kept .1 .1 .1 .1 .0 ∙ l .inv .2,
+      row .kept .1 .1 .1 .1 .1 .0 ∙ l .inv .3,
       λ f.
           prepared-more f t (a .bound) (l .k) (l .ops) (l .cells) ops cells (c .before .before .before .before .before .before .before .before .before .before .before .before .before .pre .0 .valid) (omega arith) (l .inv .4 f)
           (subst (λ (x : Step). Stored (l .k) (rowOf f t (a .bound) x) (l .ops) (l .cells) ops cells) (sym (step-action t (l .k) k)) (row .ensures f)),

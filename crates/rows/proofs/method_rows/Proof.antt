@@ -6,8 +6,10 @@ use Rattle.rules.specs.Tables.{actionCount, methodCount}
 use Rattle.rules.specs.Progression.{Step, mth}
 use Rattle.words.specs.Words.{tableOf}
 use Rattle.rows.specs.Rows.{rowOf}
-use Rattle.rows.specs.Stores.{stepAt, PreparedTo, Stored}
-use Rattle.rows.proofs.RowLaws.{step-method, prepared-more}
+use Rattle.laws.specs.Steps.{stepAt}
+use Rattle.rows.specs.Stores.{PreparedTo, Stored}
+use Rattle.laws.proofs.StepNumbers.{step-method}
+use Rattle.rows.proofs.RowLaws.{prepared-more}
 use borrow.Author.Needs.{needs}
 use Rattle.rows.proofs.method_rows.Statement.{statement}
 use Rattle.rows.proofs.method_rows.Tie as tie

@@ -7,7 +7,7 @@ use Rattle.rules.specs.Tables.{Action, action}
 use Rattle.rules.specs.Progression.{act, prefix, totalCost}
 use Rattle.laws.proofs.CountLaws.{prefix-short}
 use Rattle.words.specs.Words.{tableOf}
-use Rattle.rows.proofs.CostLaws.{prefix-action, cost-more, prefix-cheap}
+use Rattle.laws.proofs.CostLaws.{prefix-action, cost-more, prefix-cheap}
 use borrow.Author.Needs.{needs}
 use Rattle.rows.proofs.prefix_cost.Statement.{statement}
 use Rattle.rows.proofs.prefix_cost.Tie as tie

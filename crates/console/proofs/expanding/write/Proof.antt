@@ -5,10 +5,9 @@ use native.Mathlib.Omega.{arith}
 use borrow.Author.Needs.{needs}
 use lib.ListN.{length}
 use lib.Seq.{length-sets}
-use Rattle.rules.specs.Answers.{answer, refusal}
+use Rattle.rules.specs.Answers.{answer, refusal, lengthOf}
 use Rattle.rules.specs.declared.Verdict.{Verdict}
 use Rattle.rules.specs.Checks.{verdictOf}
-use Rattle.theorems.specs.Measures.{lengthOf}
 use Rattle.theorems.proofs.Expansion.{expansion-refused}
 use Rattle.plan.specs.Ready.{Few}
 use Rattle.numbers.proofs.AnswerLaws.{via}
@@ -45,7 +44,7 @@ returns c =
     let e = via verdictOf (j .ensures .0) (c .before .before .count .given .1) in
     let h = subst (λ (v : Verdict). Judged (a .form) (a .table .now) v (j .last .1 .1 .1 .1 .0) (j .last .1 .1 .1 .1 .1 .1 .0)) (c .before .before .count .given .1) (j .ensures .1 .1) in
     let q = no-room (a .bound) (a .form) (a .table .now) (a .plan .now) _ _ _ _ _ e h (length (a .steps .now)) (c .if1 .taken) in
-    (sym (ap lengthOf q), kept (a .steps .now) _ q)
+    (sym (ap lengthOf q), kept (a .steps .now) 0 _ q)
 
 slice-aggregate-expand : tie.Need-slice-aggregate-expand
 slice-aggregate-expand c = search needs
@@ -73,7 +72,7 @@ returns-2 c =
     let a = c .before .before .before .before .before .before .before .before .before .before .before .before .before .args in
     let e = via verdictOf (c .before .before .before .before .before .before .judge .ensures .0) (c .before .number .given .1) in
     let q = expansion-refused (a .bound) (a .form) (a .table .now) (a .plan .now) (length (a .steps .now)) _ _ e in
-    (sym (ap lengthOf q), kept (a .steps .now) _ q)
+    (sym (ap lengthOf q), kept (a .steps .now) 0 _ q)
 
 same-length : tie.Need-same-length
 same-length c = search needs

@@ -1,0 +1,68 @@
+-- Prepared rows: their lines are the operators' texts, and they keep to what composing asks.
+use mathlib.Core.Path.{_≡_, refl, sym, ap, subst, _∙_}
+use mathlib.Core.List.{List, [], _∷_}
+use Prim.Native.Nat.{ℕ, _+_, _-_, _^_, _≤_, _<_}
+use native.Mathlib.Omega.{arith}
+use lib.ListN.{length, getD, length-drop}
+use lib.Seq.{getD-drop}
+use Rattle.rules.specs.Tables.{Table, actionCount, methodCount, factCount, taskCount, method}
+use Rattle.rules.specs.Progression.{Step, act, mth, prefix}
+use Rattle.rules.specs.Operators.{taskOf, leaves}
+use Rattle.rules.specs.Sections.{nameOf, operatorLines, operatorText}
+use Rattle.laws.specs.Valid.{Valid}
+use Rattle.laws.specs.Steps.{stepAt}
+use Rattle.laws.proofs.JoinSizes.{joined-low}
+use Rattle.laws.proofs.StepNumbers.{by-step}
+use Rattle.laws.proofs.StepSizes.{leaves-few}
+use Rattle.rows.specs.Rows.{Row, rowAt, rowOf}
+use Rattle.rows.specs.Stacks.{stackOf}
+use Rattle.rows.proofs.RowLaws.{stay-is}
+use Rattle.compose.specs.RowTexts.{rowLines, Fit}
+use Rattle.compose.proofs.LineLaws.{stack-at}
+
+pub row-lines : (f : ℕ) (t : Table) (b : ℕ) (x : Step) (ops cells : List ℕ) (i : ℕ) → rowAt ops cells 0 ≡ rowOf f t b x
+    → rowLines (factCount t) (taskCount t) (nameOf x) (rowAt ops cells 0) i ≡ operatorText f t (record { what = x; at = i })
+unfolding operatorText operatorLines
+row-lines f t b x ops cells i e = ap (λ (r : Row). rowLines (factCount t) (taskCount t) (nameOf x) r i) e
+
+-- The task of a step and those that it leaves are tasks of the table.
+module _ (f : ℕ) (t : Table) (v : Valid t) (i : ℕ) (l : i < actionCount t + methodCount t) where
+  task-low : taskOf t (stepAt t i) < 1000
+  task-low =
+      by-step t (λ _ x. taskOf t x < 1000) i l
+      (λ k h. omega (arith, v .head .actions))
+      (λ k h. omega (arith, v .head .tasks, v .head .actions, v .head .abstracts, v .method k h .high))
+
+  left-low : (m : ℕ) → m < length (leaves f t (stepAt t i)) → getD (leaves f t (stepAt t i)) m 0 < 1000
+  left-low =
+      by-step t (λ _ x. (m : ℕ) → m < length (leaves f t x) → getD (leaves f t x) m 0 < 1000) i l
+      (λ k h m u. absurd (omega arith))
+      (λ k h m u.
+      let p = length (prefix f t k) in
+      let w : p + m < length (method t k .subs) = omega (arith, u, length-drop p (method t k .subs)) in
+      rw (getD-drop p (method t k .subs) m 0) (omega (arith, v .head .tasks, v .head .actions, v .head .abstracts, v .method k h .subs (p + m) w)))
+
+pub row-fit : (f : ℕ) (t : Table) (b i k : ℕ) (ops cells : List ℕ) → Valid t → i < actionCount t + methodCount t → k < 1000
+    → rowAt ops cells 0 ≡ rowOf f t b (stepAt t i) → 4 ≤ length ops → 12 ≤ length cells → Fit (factCount t) (taskCount t) k ops cells
+row-fit f t b i k ops cells v l h e w c =
+    let low = joined-low t v f i in
+    let n : ℕ = getD cells 9 0 in
+    let stay : n ≡ length (leaves f t (stepAt t i)) = stay-is ops cells 0 (rowOf f t b (stepAt t i)) e in
+    let rest : stackOf cells n ≡ leaves f t (stepAt t i) = ap (λ (r : Row). r .rest) e in
+    record {
+      facts = v .head .facts;
+      none = omega (arith, v .head .tasks, v .head .actions);
+      number = h;
+      words = w;
+      room = c;
+      needs = subst (λ (s : ℕ). s < 2 ^ factCount t) (sym (ap (λ (r : Row). r .needs) e)) (low .needs);
+      adds = subst (λ (s : ℕ). s < 2 ^ factCount t) (sym (ap (λ (r : Row). r .adds) e)) (low .adds);
+      dels = subst (λ (s : ℕ). s < 2 ^ factCount t) (sym (ap (λ (r : Row). r .dels) e)) (low .dels);
+      task = subst (λ (s : ℕ). s < 1000) (sym (ap (λ (r : Row). r .task) e)) (task-low f t v i l);
+      stay = omega (arith, stay, leaves-few f t v i l);
+      left = λ m u.
+          let low-m = left-low f t v i l (n - 1 - m) (omega (arith, stay)) in
+          let at : getD (leaves f t (stepAt t i)) (n - 1 - m) 0 ≡ getD cells m 0 =
+          ap (λ (s : List ℕ). getD s (n - 1 - m) 0) (sym rest) ∙ stack-at cells n m 0 u in
+          subst (λ (s : ℕ). s < 1000) at low-m;
+    }

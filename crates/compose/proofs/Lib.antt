@@ -1,0 +1,4 @@
+mod DrawLaws
+mod PieceLaws
+mod LineLaws
+pub mod FitLaws

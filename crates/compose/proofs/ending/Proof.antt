@@ -1,0 +1,32 @@
+use borrow.Author.Needs.{needs}
+use native.Mathlib.Omega.{arith}
+use Rattle.text.proofs.AppendLaws.{_▸_, appends-is}
+use Rattle.compose.proofs.DrawLaws.{draws-text}
+use Rattle.compose.proofs.PieceLaws.{ending-words}
+use Rattle.compose.proofs.ending.Statement.{statement}
+use Rattle.compose.proofs.ending.Tie as tie
+
+put-number-requires : tie.Need-put-number-requires
+put-number-requires c κs = omega (arith, c .before .before .pre .bytes)
+
+slice-aggregate-put : tie.Need-slice-aggregate-put
+slice-aggregate-put c = search needs
+
+put-requires : tie.Need-put-requires
+put-requires c κs =
+    let n = c .before .before .before .before .put-number .ensures in
+    omega (arith, c .before .before .before .before .before .before .before .pre .bytes, n .1, n .0 .size)
+
+same-length : tie.Need-same-length
+same-length c = search needs
+
+returns : tie.Need-returns
+returns c =
+    let s = c .before .before .before .before .before .before .before .before .before .before in
+    let n = c .before .before .before .before .before .before .before .put-number .ensures in
+    let e = c .before .before .put .ensures in
+    λ lens offs. draws-text (s .pre) (omega (arith, n .1, e .next)) (appends-is (ending-words (s .args .cost)) (n .0 ▸ e))
+
+pub ending-spec : {M : Type 1} → statement M
+ending-spec =
+    tie.close (tie.spec put-number-requires slice-aggregate-put put-requires same-length returns)

@@ -1,0 +1,57 @@
+use borrow.Author.Needs.{needs}
+use mathlib.Core.List.{[]}
+use native.Mathlib.Omega.{arith}
+use Rattle.compose.proofs.DrawLaws.{_▹_, draws-is, space-less, space-after, room-after}
+use Rattle.compose.proofs.PieceLaws.{opening-words}
+use Rattle.compose.proofs.opening.Statement.{statement}
+use Rattle.compose.proofs.opening.Tie as tie
+
+slice-aggregate-write : tie.Need-slice-aggregate-write
+slice-aggregate-write c = search needs
+
+write-requires : tie.Need-write-requires
+write-requires c κs = space-less (c .before .before .before .before .before .pre .0 .space) (omega arith)
+
+slice-aggregate-field : tie.Need-slice-aggregate-field
+slice-aggregate-field c = search needs
+
+field-requires : tie.Need-field-requires
+field-requires c κs =
+    let s = c .before .before .before .before .before .before .before .before .before .before .pre in
+    (space-after (s .0 .space) (c .before .before .before .before .write .ensures [] []) (omega arith), s .1)
+
+slice-aggregate-moving-line : tie.Need-slice-aggregate-moving-line
+slice-aggregate-moving-line c = search needs
+
+moving-line-requires : tie.Need-moving-line-requires
+moving-line-requires c κs = (room-after (c .before .before .before .before .before .before .before .before .before .before .before .before .before .before .before .before .before .pre .0) (c .before .before .before .before .before .before .before .before .before .before .before .write .ensures _ _ ▹ c .before .before .before .before .before .before .field .ensures _ _) (omega arith) (omega arith), omega arith)
+
+same-length : tie.Need-same-length
+same-length c = (c .before .before .before .before .before .before .before .before .before .before .before .before .before .before .before .before .before .before .write .ensures _ _ ▹ c .before .before .before .before .before .before .before .before .before .before .before .before .before .field .ensures _ _ ▹ c .before .before .before .before .before .before .moving-line .ensures) .size
+
+same-length-2 : tie.Need-same-length-2
+same-length-2 c = c .before .before .before .before .before .before .moving-line .ensures .lengths
+
+same-length-3 : tie.Need-same-length-3
+same-length-3 c = c .before .before .before .before .before .before .moving-line .ensures .offsets
+
+returns : tie.Need-returns
+returns c =
+    let a = c .before .before .before .before .before .before .before .before .before .before .before .before .before .before .before .before .before .before .before .before .before .before .before .before .args in
+    draws-is (omega arith) (omega arith) (opening-words (a .letter) (a .k))
+    (c .before .before .before .before .before .before .before .before .before .before .before .before .before .before .before .before .before .before .write .ensures _ _ ▹ c .before .before .before .before .before .before .before .before .before .before .before .before .before .field .ensures _ _ ▹ c .before .before .before .before .before .before .moving-line .ensures)
+
+pub opening-spec : {M : Type 1} → statement M
+opening-spec =
+    tie.close
+    (tie.spec
+    slice-aggregate-write
+    write-requires
+    slice-aggregate-field
+    field-requires
+    slice-aggregate-moving-line
+    moving-line-requires
+    same-length
+    same-length-2
+    same-length-3
+    returns)

@@ -1,0 +1,27 @@
+use mathlib.Core.Path.{ap, _∙_}
+use lib.ListN.{length}
+use borrow.Author.Needs.{needs}
+use Rattle.rules.specs.Answers.{numberOf}
+use Rattle.rules.specs.Refusals.{oneSection}
+use Rattle.console.proofs.WriteLaws.{length-number}
+use Rattle.console.proofs.one_section.ildorzhen_section_number.Statement.{statement}
+use Rattle.console.proofs.one_section.ildorzhen_section_number.Tie as tie
+
+measure-requires : tie.Need-measure-requires
+measure-requires c κs = search needs
+
+number-requires : tie.Need-number-requires
+number-requires c κs = search needs
+
+returns : tie.Need-returns
+returns c =
+    let a = c .before .before .before .before .args in
+    c .number .ensures ∙ ap numberOf (c .before .measure .ensures) ∙ length-number (oneSection (a .bound) (a .form) (a .table .now) (a .index) (length (a .text .now)) (a .at))
+
+pub ildorzhen-section-number-spec : {M : Type 1} → statement M
+ildorzhen-section-number-spec =
+    tie.close
+    (tie.spec
+    measure-requires
+    number-requires
+    returns)

@@ -1,0 +1,145 @@
+// One section of a problem, measured, or written into the caller's text from a place on.
+ghost use mathlib.Core.Path.{_≡_};
+ghost use Prim.Native.Nat.{_≤_};
+ghost use lib.ListN.{length};
+ghost use Rattle.rules.specs.Answers.{numberOf, placeOf, valueOf, replyOf, after, lengthOf};
+ghost use Rattle.rules.specs.Sections.{sectionsOf};
+ghost use Rattle.rules.specs.Refusals.{chosen, roomFor, oneSection, written};
+ghost use Rattle.words.specs.Words.{tableOf, Held};
+ghost use Rattle.console.specs.Rooms.{roomAt};
+use rules::Reply;
+use table::Step;
+
+// A section of so many bytes where there is room for it from the place on.
+fn room(reply: Reply, size: u64, at: u64) -> Reply
+    ensures { λ r. ⌜ replyOf r ≡ roomAt size at (replyOf reply) ⌝ }
+{
+    match reply {
+        Reply::Refused(number, place) => Reply::Refused(number, place),
+        Reply::Value(bytes) => {
+            if size < at {
+                return Reply::Refused(16, bytes);
+            }
+            if size - at < bytes {
+                return Reply::Refused(16, bytes);
+            }
+            Reply::Value(bytes)
+        }
+    }
+}
+
+// The section's length, and nothing written.
+fn measure(bound: u64, form: u64, table: &[u8], index: u64, size: usize, at: u64) -> Reply
+    ensures { λ r. ⌜ replyOf r ≡ lengthOf (oneSection bound form (now (table .entry)) index size at) ⌝ }
+{
+    let why = crate::order::early(bound, form, table.len());
+    if why != 0 {
+        return Reply::Refused(why, 0);
+    }
+    let mut words = [0u64; 6147];
+    match table::read_table(table, &mut words) {
+        Step::Bad(why, place) => Reply::Refused(why, place as u64),
+        Step::Next(_) => {
+            let mut space = [0u8; 4096];
+            let reply = section::put_section(&words, form, bound, index, &mut space);
+            room(reply, size as u64, at)
+        }
+    }
+}
+
+// The section at the start of the part that is lent, where there is room for it; its length.
+fn put(words: &[u64], form: u64, bound: u64, index: u64, part: &mut [u8]) -> Reply
+    requires { ⌜ Held (now words) × (1 ≤ bound) × (bound ≤ 64) ⌝ }
+    ensures { λ r. ⌜ replyOf r ≡ lengthOf (after (chosen (sectionsOf form (tableOf (now (words .entry))) bound) index) (roomFor (length (now (part .entry))) 0)) ⌝ }
+    ensures { λ _. ⌜ now (part .exit) ≡ written (now (part .entry)) 0 (after (chosen (sectionsOf form (tableOf (now (words .entry))) bound) index) (roomFor (length (now (part .entry))) 0)) ⌝ }
+{
+    let mut space = [0u8; 4096];
+    match section::put_section(words, form, bound, index, &mut space) {
+        Reply::Refused(number, place) => Reply::Refused(number, place),
+        Reply::Value(bytes) => {
+            let size = bytes as usize;
+            if part.len() < size {
+                return Reply::Refused(16, bytes);
+            }
+            text::copy(part, 0, &space[..size]);
+            Reply::Value(bytes)
+        }
+    }
+}
+
+// The section in the text from the place on, and its length.
+fn write(bound: u64, form: u64, table: &[u8], index: u64, text: &mut [u8], at: u64) -> Reply
+    ensures { λ r. ⌜ replyOf r ≡ lengthOf (oneSection bound form (now (table .entry)) index (length (now (text .entry))) at) ⌝ }
+    ensures { λ _. ⌜ now (text .exit) ≡ written (now (text .entry)) at (oneSection bound form (now (table .entry)) index (length (now (text .entry))) at) ⌝ }
+{
+    let from = at as usize;
+    if text.len() < from {
+        return measure(bound, form, table, index, text.len(), at);
+    }
+    let why = crate::order::early(bound, form, table.len());
+    if why != 0 {
+        return Reply::Refused(why, 0);
+    }
+    let mut words = [0u64; 6147];
+    match table::read_table(table, &mut words) {
+        Step::Bad(why, place) => Reply::Refused(why, place as u64),
+        Step::Next(_) => put(&words, form, bound, index, &mut text[from..]),
+    }
+}
+
+#[no_mangle]
+pub extern "C" fn ildorzhen_section_number(
+    bound: u64,
+    form: u64,
+    table: &[u8],
+    index: u64,
+    text: &[u8],
+    at: u64,
+) -> u64
+    ensures { λ r. ⌜ r ≡ numberOf (oneSection bound form (now (table .entry)) index (length (now (text .entry))) at) ⌝ }
+{
+    crate::reply::number(measure(bound, form, table, index, text.len(), at))
+}
+
+#[no_mangle]
+pub extern "C" fn ildorzhen_section_place(
+    bound: u64,
+    form: u64,
+    table: &[u8],
+    index: u64,
+    text: &[u8],
+    at: u64,
+) -> u64
+    ensures { λ r. ⌜ r ≡ placeOf (oneSection bound form (now (table .entry)) index (length (now (text .entry))) at) ⌝ }
+{
+    crate::reply::place(measure(bound, form, table, index, text.len(), at))
+}
+
+#[no_mangle]
+pub extern "C" fn ildorzhen_section_length(
+    bound: u64,
+    form: u64,
+    table: &[u8],
+    index: u64,
+    text: &[u8],
+    at: u64,
+) -> u64
+    ensures { λ r. ⌜ r ≡ valueOf length (oneSection bound form (now (table .entry)) index (length (now (text .entry))) at) ⌝ }
+{
+    crate::reply::value(measure(bound, form, table, index, text.len(), at))
+}
+
+#[no_mangle]
+pub extern "C" fn ildorzhen_section_write(
+    bound: u64,
+    form: u64,
+    table: &[u8],
+    index: u64,
+    text: &mut [u8],
+    at: u64,
+) -> u64
+    ensures { λ r. ⌜ r ≡ valueOf length (oneSection bound form (now (table .entry)) index (length (now (text .entry))) at) ⌝ }
+    ensures { λ _. ⌜ now (text .exit) ≡ written (now (text .entry)) at (oneSection bound form (now (table .entry)) index (length (now (text .entry))) at) ⌝ }
+{
+    crate::reply::value(write(bound, form, table, index, text, at))
+}

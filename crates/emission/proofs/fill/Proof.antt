@@ -1,0 +1,84 @@
+use Prim.Native.Nat.{_*_, _-_, _≤_}
+use mathlib.Core.Path.{_≡_, sym, _∙_}
+use mathlib.Core.List.{_++_, append-nil}
+use native.Mathlib.Omega.{arith}
+use lib.ListN.{length, take}
+use Rattle.rules.specs.Lists.{upto}
+use Rattle.laws.specs.Steps.{stepText}
+use Rattle.words.specs.Words.{tableOf}
+use Rattle.emission.proofs.PartLaws.{part-more}
+use borrow.Author.Needs.{needs}
+use Rattle.emission.proofs.fill.Statement.{statement}
+use Rattle.emission.proofs.fill.Tie as tie
+
+abbrev Inv-loop : tie.InvT-loop
+Inv-loop words form bound figures from out₀ steps room next₀ size₀ out next size =
+    (from ≤ next) × (next ≤ steps) × (size ≤ 90112 * (next - from)) × (size ≤ length out) × (length out ≡ length out₀)
+    × (upto (stepText form (tableOf words) bound) next ≡ upto (stepText form (tableOf words) bound) from ++ take size out)
+
+abbrev μ-loop : tie.MeasureT-loop
+μ-loop words form bound figures from out₀ steps room next₀ size₀ out next size = steps - next
+
+step-count-requires : tie.Need-step-count-requires Inv-loop μ-loop
+step-count-requires c κs = search needs
+
+sub-room : tie.Need-sub-room Inv-loop μ-loop
+sub-room c = search needs
+
+loop-holds : tie.Need-loop-holds Inv-loop μ-loop
+loop-holds c = (search needs, search needs, search needs, search needs, search needs, sym (append-nil _))
+
+same-length : tie.Need-same-length Inv-loop μ-loop
+same-length c = search needs
+
+returns : tie.Need-returns Inv-loop μ-loop
+returns c = (c .before .before .loop .inv .5, (omega arith, omega arith, c .before .before .loop .inv .3, c .before .before .loop .inv .4))
+
+put-operators-requires : tie.Need-put-operators-requires Inv-loop μ-loop
+put-operators-requires c κs =
+    let l = c .before .before .before in
+    let s = l .before .before .before .before .before in
+    ((s .pre .0 .0, s .pre .0 .1, omega arith), (s .pre .0 .2, omega (arith, l .loop .inv .4, s .pre .0 .3)))
+
+add-next : tie.Need-add-next Inv-loop μ-loop
+add-next c = search needs
+
+loop-less : tie.Need-loop-less Inv-loop μ-loop
+loop-less c = search needs
+
+loop-again : tie.Need-loop-again Inv-loop μ-loop
+loop-again c =
+    let p = c .before .before in
+    let l = p .before .before .before .before in
+    let w = p .put-operators .ensures in (
+      omega arith,
+      omega arith,
+      omega (arith, w .1),
+      omega (arith, w .1, w .0 .size),
+      w .0 .size ∙ l .loop .inv .4,
+      part-more _ _ _ _ _ _ _ (l .loop .inv .5) (w .0),
+    )
+
+same-length-2 : tie.Need-same-length-2 Inv-loop μ-loop
+same-length-2 c = search needs
+
+returns-2 : tie.Need-returns-2 Inv-loop μ-loop
+returns-2 c = (c .before .loop .inv .5, (omega arith, omega arith, c .before .loop .inv .3, c .before .loop .inv .4))
+
+pub fill-spec : {M : Type 1} → statement M
+fill-spec =
+    tie.close
+    (tie.spec
+    Inv-loop
+    μ-loop
+    step-count-requires
+    sub-room
+    loop-holds
+    same-length
+    returns
+    put-operators-requires
+    add-next
+    loop-less
+    loop-again
+    same-length-2
+    returns-2)

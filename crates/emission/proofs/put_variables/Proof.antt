@@ -1,0 +1,79 @@
+use Prim.Native.Nat.{_+_, _*_, _-_, _≤_}
+use mathlib.Core.Path.{_≡_, ap}
+use native.Mathlib.Omega.{arith}
+use Rattle.rules.specs.Lists.{upto}
+use Rattle.rules.specs.Sections.{variableCount, variableText}
+use Rattle.laws.proofs.TextLaws.{upto-more}
+use Rattle.words.specs.Words.{tableOf}
+use Rattle.text.specs.Appends.{Appends}
+use Rattle.text.proofs.AppendLaws.{_▸_, appends-is, appends-none}
+use borrow.Author.Needs.{needs}
+use Rattle.emission.proofs.put_variables.Statement.{statement}
+use Rattle.emission.proofs.put_variables.Tie as tie
+
+abbrev Inv-loop : tie.InvT-loop
+Inv-loop words bound out₀ at variables next₀ v₀ out next v =
+    (v ≤ variables) × Appends out₀ at (upto (variableText (tableOf words) bound) v) out next × (next ≤ at + 2048 * v) × (variables ≡ variableCount (tableOf words) bound) × (variables ≤ 129)
+
+abbrev μ-loop : tie.MeasureT-loop
+μ-loop words bound out₀ at variables next₀ v₀ out next v = variables - v
+
+fact-count-requires : tie.Need-fact-count-requires Inv-loop μ-loop
+fact-count-requires c κs = search needs
+
+add-variables : tie.Need-add-variables Inv-loop μ-loop
+add-variables c = search needs
+
+add-variables-2 : tie.Need-add-variables-2 Inv-loop μ-loop
+add-variables-2 c = search needs
+
+loop-holds : tie.Need-loop-holds Inv-loop μ-loop
+unfolding upto
+loop-holds c = (search needs, appends-none _ _, search needs, search needs, search needs)
+
+put-variable-requires : tie.Need-put-variable-requires Inv-loop μ-loop
+put-variable-requires c κs = search needs
+
+add-v : tie.Need-add-v Inv-loop μ-loop
+add-v c = search needs
+
+loop-less : tie.Need-loop-less Inv-loop μ-loop
+loop-less c = search needs
+
+loop-again : tie.Need-loop-again Inv-loop μ-loop
+loop-again c =
+    let p = c .before .before in
+    let l = p .before .before .before in (
+      omega arith,
+      appends-is (upto-more _ _) (l .loop .inv .1 ▸ p .put-variable .ensures .0),
+      omega (arith, p .put-variable .ensures .1),
+      l .loop .inv .3,
+      l .loop .inv .4,
+    )
+
+same-length : tie.Need-same-length Inv-loop μ-loop
+same-length c = search needs
+
+returns : tie.Need-returns Inv-loop μ-loop
+returns c =
+    let l = c .before in
+    let a = l .before .before .before .before .args in
+    let e : variableCount (tableOf (a .words .now)) (a .bound) ≡ l .loop .v = omega arith in
+    (appends-is (ap (upto (variableText (tableOf (a .words .now)) (a .bound))) e) (l .loop .inv .1), omega arith)
+
+pub put-variables-spec : {M : Type 1} → statement M
+put-variables-spec =
+    tie.close
+    (tie.spec
+    Inv-loop
+    μ-loop
+    fact-count-requires
+    add-variables
+    add-variables-2
+    loop-holds
+    put-variable-requires
+    add-v
+    loop-less
+    loop-again
+    same-length
+    returns)

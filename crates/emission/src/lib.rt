@@ -1,0 +1,151 @@
+// The emitting program's work on its input: the whole problem as text, part by part, or one line that says the refusal.
+ghost use mathlib.Core.Path.{_≡_};
+ghost use mathlib.Core.List.{_++_};
+ghost use Prim.Native.Nat.{_+_, _≤_, _<_};
+ghost use lib.ListN.{length, take, getD};
+ghost use Rattle.rules.specs.Lists.{upto};
+ghost use Rattle.rules.specs.Tables.{actionCount, methodCount};
+ghost use Rattle.rules.specs.Sections.{variableCount, variableText};
+ghost use Rattle.rules.specs.Refusals.{wholeProblem};
+ghost use Rattle.laws.specs.Steps.{stepText, frontText};
+ghost use Rattle.words.specs.Words.{tableOf, Held};
+ghost use Rattle.text.specs.Appends.{Appends};
+ghost use Rattle.template.specs.Figures.{Figures};
+ghost use Rattle.emission.specs.Opened.{emitInput, Opened};
+use rules::Reply;
+use table::Step;
+
+pub fn emit(input: &[u8]) {
+    let mut words = [0u64; 6147];
+    match open_input(input, &mut words) {
+        Reply::Refused(number, place) => show_refusal(number, place),
+        Reply::Value(_) => show(
+            &words,
+            report::byte(input, 1) as u64,
+            report::byte(input, 0) as u64,
+        ),
+    }
+}
+
+// The first byte is the bound, the second the form, and all behind them the table.
+fn open_input(input: &[u8], words: &mut [u64]) -> Reply
+    requires { ⌜ 6147 ≤ length (now words) ⌝ }
+    ensures { λ r. ⌜ Opened (getD (now (input .entry)) 0 0) (getD (now (input .entry)) 1 0) (emitInput (now (input .entry))) r (now (words .exit)) ⌝ }
+{
+    let bound = report::byte(input, 0) as u64;
+    let form = report::byte(input, 1) as u64;
+    let start = report::smaller(2, input.len());
+    open(bound, form, &input[start..], words)
+}
+
+// In the order of the refusals: bound, form, table.
+fn open(bound: u64, form: u64, table: &[u8], words: &mut [u64]) -> Reply
+    requires { ⌜ 6147 ≤ length (now words) ⌝ }
+    ensures { λ r. ⌜ Opened bound form (wholeProblem bound form (now (table .entry))) r (now (words .exit)) ⌝ }
+{
+    let why = console::order::early(bound, form, table.len());
+    if why != 0 {
+        return Reply::Refused(why, 0);
+    }
+    match table::read_table(table, words) {
+        Step::Bad(why, at) => Reply::Refused(why, at as u64),
+        Step::Next(_) => Reply::Value(0),
+    }
+}
+
+fn show_refusal(number: u64, place: u64) {
+    let mut line = [0u8; 80];
+    let size = report::refused(&mut line, number, place);
+    report::send(&line, size);
+}
+
+// All sections: those before the operators, the operators, and the last.
+fn show(words: &[u64], form: u64, bound: u64)
+    requires { ⌜ Held (now words) × (bound ≤ 64) ⌝ }
+{
+    let mut figures = [0u8; 2048];
+    template::fill_figures(&mut figures);
+    let mut out = space();
+    let front = put_front(words, form, bound, &mut out);
+    report::send(&out, front);
+    send_operators(words, form, bound, &figures, &mut out);
+    report::send(b"0\n", 2);
+}
+
+// Room for all that stands before the operators, and then for the operators of five steps.
+fn space() -> [u8; 524288]
+    ensures { λ r. ⌜ 524288 ≡ length r ⌝ }
+{
+    [0; 524288]
+}
+
+// The operators, in parts that fill the space.
+fn send_operators(words: &[u64], form: u64, bound: u64, figures: &[u8], out: &mut [u8])
+    requires { ⌜ Held (now words) × (bound ≤ 64) × Figures (now figures) 512 × (90176 ≤ length (now out)) ⌝ }
+{
+    let steps = step_count(words);
+    let mut next = 0;
+    while next < steps {
+        let part = fill(words, form, bound, figures, next, out);
+        report::send(out, part.size);
+        next = part.next;
+    }
+}
+
+fn step_count(words: &[u64]) -> usize
+    requires { ⌜ Held (now words) ⌝ }
+    ensures { λ r. ⌜ r ≡ actionCount (tableOf (now (words .entry))) + methodCount (tableOf (now (words .entry))) ⌝ }
+{
+    words::action_count(words) as usize + words::method_count(words)
+}
+
+fn put_variables(words: &[u64], bound: u64, out: &mut [u8], at: usize) -> usize
+    requires { ⌜ Held (now words) × (bound ≤ 64) × (at + 264192 ≤ length (now out)) ⌝ }
+    ensures { λ r. ⌜ Appends (now (out .entry)) at (upto (variableText (tableOf (now (words .entry))) bound) (variableCount (tableOf (now (words .entry))) bound)) (now (out .exit)) r ⌝ }
+    ensures { λ r. ⌜ r ≤ at + 264192 ⌝ }
+{
+    let variables = words::fact_count(words) + 1 + bound;
+    let mut next = at;
+    for v in 0..variables {
+        next = frame::put_variable(words, bound, v, out, next);
+    }
+    next
+}
+
+// The sections before the operators.
+fn put_front(words: &[u64], form: u64, bound: u64, out: &mut [u8]) -> usize
+    requires { ⌜ Held (now words) × (bound ≤ 64) × (268288 ≤ length (now out)) ⌝ }
+    ensures { λ r. ⌜ Appends (now (out .entry)) 0 (frontText form (tableOf (now (words .entry))) bound) (now (out .exit)) r ⌝ }
+    ensures { λ r. ⌜ r ≤ 268288 ⌝ }
+{
+    let first = frame::put_preamble(words, bound, out, 0);
+    let next = put_variables(words, bound, out, first);
+    frame::put_middle(words, form, bound, out, next)
+}
+
+// Where to go on, and how many bytes have been written.
+struct Part {
+    next: usize,
+    size: usize,
+}
+
+// The operators from a step on, of as many steps as there is room for.
+fn fill(words: &[u64], form: u64, bound: u64, figures: &[u8], from: usize, out: &mut [u8]) -> Part
+    requires { ⌜ Held (now words) × (bound ≤ 64) × Figures (now figures) 512 × (90176 ≤ length (now out)) ⌝ }
+    requires { ⌜ from < actionCount (tableOf (now words)) + methodCount (tableOf (now words)) ⌝ }
+    ensures { λ r. ⌜ upto (stepText form (tableOf (now (words .entry))) bound) (r .next) ≡ upto (stepText form (tableOf (now (words .entry))) bound) from ++ take (r .size) (now (out .exit)) ⌝ }
+    ensures { λ r. ⌜ (from < r .next) × (r .next ≤ actionCount (tableOf (now (words .entry))) + methodCount (tableOf (now (words .entry)))) × (r .size ≤ length (now (out .exit))) × (length (now (out .exit)) ≡ length (now (out .entry))) ⌝ }
+{
+    let steps = step_count(words);
+    let room = out.len() - 90176;
+    let mut next = from;
+    let mut size = 0;
+    while next < steps {
+        if room < size {
+            return Part { next, size };
+        }
+        size = section::put_operators(words, form, bound, next, figures, out, size);
+        next += 1;
+    }
+    Part { next, size }
+}

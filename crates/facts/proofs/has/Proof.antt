@@ -1,0 +1,18 @@
+use Prim.Native.Nat.{ℕ, _/_, _^_}
+use mathlib.Core.Path.{ap, sym, _∙_}
+use lib.Bits.{and-mask}
+use lib.Dec.{eqb}
+use borrow.Author.Needs.{needs}
+use Rattle.laws.proofs.SetLaws.{has-bit}
+use Rattle.facts.proofs.has.Statement.{statement}
+use Rattle.facts.proofs.has.Tie as tie
+
+shr-result : tie.Need-shr-result
+shr-result c = search needs
+
+returns : tie.Need-returns
+returns c =
+    ap (λ (b : ℕ). eqb b 1) (and-mask (c .args .set / 2 ^ c .args .k) 1) ∙ sym (has-bit (c .args .set) (c .args .k))
+
+pub has-spec : {M : Type 1} → statement M
+has-spec = tie.close (tie.spec shr-result returns)

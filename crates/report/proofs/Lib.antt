@@ -1,0 +1,2 @@
+mod ReportLaws
+pub mod InputLaws

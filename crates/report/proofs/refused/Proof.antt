@@ -1,0 +1,55 @@
+use native.Mathlib.Omega.{arith}
+use Rattle.rules.specs.Texts.{bytes, digits}
+use Rattle.text.proofs.AppendLaws.{_▸_, appends-is}
+use Rattle.report.specs.Reports.{lineOf}
+use Rattle.report.proofs.ReportLaws.{three-words}
+use borrow.Author.Needs.{needs}
+use Rattle.report.proofs.refused.Statement.{statement}
+use Rattle.report.proofs.refused.Tie as tie
+
+slice-aggregate-put : tie.Need-slice-aggregate-put
+slice-aggregate-put c = search needs
+
+put-requires : tie.Need-put-requires
+put-requires c κs = search needs
+
+put-word-requires : tie.Need-put-word-requires
+put-word-requires c κs = search needs
+
+put-word-requires-2 : tie.Need-put-word-requires-2
+put-word-requires-2 c κs = search needs
+
+slice-aggregate-put-2 : tie.Need-slice-aggregate-put-2
+slice-aggregate-put-2 c = search needs
+
+put-requires-2 : tie.Need-put-requires-2
+put-requires-2 c κs = search needs
+
+same-length : tie.Need-same-length
+same-length c = search needs
+
+returns : tie.Need-returns
+unfolding lineOf
+returns c =
+    let p4 = c .before .before in
+    let p3 = p4 .before .before .before .before .before in
+    let p2 = p3 .before .before .before .before in
+    let p1 = p2 .before .before .before .before in
+    let a = p1 .before .before .before .before .args in (
+      appends-is (three-words (bytes "refused") (digits (a .number)) (digits (a .place)))
+          (p1 .put .ensures ▸ p2 .put-word .ensures .0 ▸ p3 .put-word2 .ensures .0 ▸ p4 .put2 .ensures),
+      omega (arith, p1 .put .ensures .next, p2 .put-word .ensures .1, p3 .put-word2 .ensures .1, p4 .put2 .ensures .next),
+    )
+
+pub refused-spec : {M : Type 1} → statement M
+refused-spec =
+    tie.close
+    (tie.spec
+    slice-aggregate-put
+    put-requires
+    put-word-requires
+    put-word-requires-2
+    slice-aggregate-put-2
+    put-requires-2
+    same-length
+    returns)

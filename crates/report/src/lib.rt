@@ -1,0 +1,73 @@
+// What the programs share: the bytes of their input, the line that they write, from the start of the caller's text, and sending it.
+ghost use mathlib.Core.Path.{_≡_};
+ghost use mathlib.Core.List.{_∷_};
+ghost use Prim.Native.Nat.{_+_, _*_, _≤_, min};
+ghost use lib.ListN.{length, getD};
+ghost use Rattle.rules.specs.Answers.{refusal};
+ghost use Rattle.rules.specs.Checks.{accepted as Checks·accepted};
+ghost use Rattle.rules.specs.Texts.{digits};
+ghost use Rattle.text.specs.Appends.{Appends};
+ghost use Rattle.report.specs.Reports.{lineOf};
+use libc::STDOUT_FILENO;
+
+// A byte that the input lacks reads as 0.
+pub fn byte(input: &[u8], at: usize) -> u8
+    ensures { λ r. ⌜ r ≡ getD (now (input .entry)) at 0 ⌝ }
+{
+    if at < input.len() {
+        return input[at];
+    }
+    0
+}
+
+pub fn two_bytes(low: u8, high: u8) -> usize
+    ensures { λ r. ⌜ r ≡ low + 256 * high ⌝ }
+{
+    low as usize + 256 * high as usize
+}
+
+pub fn smaller(a: usize, b: usize) -> usize
+    ensures { λ r. ⌜ r ≡ min a b ⌝ }
+{
+    if a < b { a } else { b }
+}
+
+// A space and a number.
+fn put_word(out: &mut [u8], at: usize, n: u64) -> usize
+    requires { ⌜ at + 21 ≤ length (now out) ⌝ }
+    ensures { λ r. ⌜ Appends (now (out .entry)) at (32 ∷ digits n) (now (out .exit)) r ⌝ }
+    ensures { λ r. ⌜ r ≤ at + 21 ⌝ }
+{
+    let next = text::put(out, at, b" ");
+    text::put_number(out, next, n)
+}
+
+pub fn accepted(out: &mut [u8], cost: u64, operators: u64, steps: u64) -> usize
+    requires { ⌜ 80 ≤ length (now out) ⌝ }
+    ensures { λ r. ⌜ Appends (now (out .entry)) 0 (lineOf (Checks·accepted cost operators steps)) (now (out .exit)) r ⌝ }
+    ensures { λ r. ⌜ r ≤ 80 ⌝ }
+{
+    let first = text::put(out, 0, b"accepted");
+    let second = put_word(out, first, cost);
+    let third = put_word(out, second, operators);
+    let end = put_word(out, third, steps);
+    text::put(out, end, b"\n")
+}
+
+pub fn refused(out: &mut [u8], number: u64, place: u64) -> usize
+    requires { ⌜ 80 ≤ length (now out) ⌝ }
+    ensures { λ r. ⌜ Appends (now (out .entry)) 0 (lineOf (refusal number place)) (now (out .exit)) r ⌝ }
+    ensures { λ r. ⌜ r ≤ 80 ⌝ }
+{
+    let first = text::put(out, 0, b"refused");
+    let second = put_word(out, first, number);
+    let end = put_word(out, second, place);
+    text::put(out, end, b"\n")
+}
+
+// The first bytes of a text, to standard output.
+pub fn send(text: &[u8], count: usize)
+    requires { ⌜ count ≤ length (now text) ⌝ }
+{
+    io::write_all(STDOUT_FILENO, &text[0..count]);
+}

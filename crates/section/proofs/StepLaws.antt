@@ -1,0 +1,62 @@
+-- The operators of a step, from its row and the template that is composed of it.
+use mathlib.Core.Path.{_≡_, sym, ap, _∙_}
+use mathlib.Core.List.{List}
+use Prim.Native.Nat.{ℕ, suc, _+_, _≤_, _<_}
+use native.Mathlib.Omega.{arith}
+use lib.ListN.{length, getD}
+use Rattle.rules.specs.Lists.{upto}
+use Rattle.rules.specs.Tables.{Table, factCount, taskCount, actionCount, methodCount}
+use Rattle.rules.specs.Operators.{positions}
+use Rattle.rules.specs.Sections.{nameOf, operatorText}
+use Rattle.laws.specs.Valid.{Valid}
+use Rattle.laws.specs.Steps.{stepAt, stepText}
+use Rattle.laws.proofs.TextLaws.{upto-same}
+use Rattle.laws.proofs.StepSizes.{positions-low}
+use Rattle.template.specs.declared.Pen.{Pen}
+use Rattle.template.specs.Templates.{Drawn, rendered}
+use Rattle.template.proofs.TemplateLaws.{drawn-is}
+use Rattle.rows.specs.Rows.{Row, rowAt, rowOf}
+use Rattle.compose.specs.RowTexts.{Fit, rowLines}
+use Rattle.compose.proofs.FitLaws.{row-lines, row-fit}
+
+-- What is asked of a row, for another number, in words of the code.
+pub fit-as : {facts none top free : ℕ} (i k : ℕ) (ops cells : List ℕ) → top ≡ facts → free ≡ none → k < 1000 → Fit facts none i ops cells → Fit top free k ops cells
+fit-as i k ops cells p q h x =
+    rw (p, q) (record {
+      facts = x .facts;
+      none = x .none;
+      number = h;
+      words = x .words;
+      room = x .room;
+      needs = x .needs;
+      adds = x .adds;
+      dels = x .dels;
+      task = x .task;
+      stay = x .stay;
+      left = x .left;
+    })
+
+pub drawn-as : {facts none top free : ℕ} {label name s lens offs : List ℕ} {pen : Pen} (r : Row) → top ≡ facts → free ≡ none → label ≡ name
+    → Drawn s lens offs pen (λ p. rowLines top free label r (suc p)) → Drawn s lens offs pen (λ p. rowLines facts none name r (suc p))
+drawn-as r p q u d = drawn-is d (λ n. λ j. rowLines (p j) (q j) (u j) r (suc n))
+
+module _ (f : ℕ) (t : Table) (b i : ℕ) (ops cells : List ℕ) (e : rowAt ops cells 0 ≡ rowOf f t b (stepAt t i)) where
+  pub step-fit : Valid t → i < actionCount t + methodCount t → length ops ≡ 4 → length cells ≡ 12 → Fit (factCount t) (taskCount t) i ops cells
+  step-fit v l p q = row-fit f t b i i ops cells v l (omega (arith, v .head .actions, v .head .methods)) e (omega arith) (omega arith)
+
+  -- Its highest position.
+  step-count : getD cells 11 0 ≡ positions f t b (stepAt t i)
+  step-count = ap (λ (r : Row). r .last) e
+
+  pub step-few : Valid t → i < actionCount t + methodCount t → getD cells 11 0 ≤ b
+  step-few v l = omega (arith, step-count, positions-low f t v i l b)
+
+  module _ {s lens offs : List ℕ} {pen : Pen} (d : Drawn s lens offs pen (λ p. rowLines (factCount t) (taskCount t) (nameOf (stepAt t i)) (rowAt ops cells 0) (suc p))) where
+    pub operator-drawn : (p : ℕ) → rendered s lens offs pen p ≡ operatorText f t (record { what = stepAt t i; at = suc p })
+    operator-drawn p = d .text p ∙ row-lines f t b (stepAt t i) ops cells (suc p) e
+
+    pub step-drawn : stepText f t b i ≡ upto (rendered s lens offs pen) (getD cells 11 0)
+    unfolding stepText
+    step-drawn =
+        ap (upto (λ p. operatorText f t (record { what = stepAt t i; at = suc p }))) (sym step-count)
+        ∙ upto-same _ _ (getD cells 11 0) (λ p l. sym (operator-drawn p))

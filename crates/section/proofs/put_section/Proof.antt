@@ -1,0 +1,162 @@
+use mathlib.Core.Path.{_≡_, subst}
+use Prim.Native.Nat.{_+_, _-_}
+use native.Mathlib.Omega.{arith}
+use borrow.Author.Needs.{needs}
+use Rattle.rules.specs.Sections.{variableCount}
+use Rattle.words.specs.Words.{tableOf}
+use Rattle.problem.specs.declared.Found.{Found}
+use Rattle.problem.specs.Places.{IsFound}
+use Rattle.section.proofs.ChosenLaws.{chosen-first, chosen-variable, chosen-middle, chosen-operator, chosen-last, chosen-none, begins, refused}
+use Rattle.section.proofs.put_section.Statement.{statement}
+use Rattle.section.proofs.put_section.Tie as tie
+
+fact-count-requires : tie.Need-fact-count-requires
+fact-count-requires c κs = search needs
+
+add-variables : tie.Need-add-variables
+add-variables c = search needs
+
+add-variables-2 : tie.Need-add-variables-2
+add-variables-2 c = search needs
+
+put-preamble-requires : tie.Need-put-preamble-requires
+put-preamble-requires c κs = search needs
+
+same-length : tie.Need-same-length
+same-length c = search needs
+
+returns : tie.Need-returns
+returns c =
+    let a = c .before .before .before .before .before .before .before .before .args in
+    let t = tableOf (a .words .now) in
+    let put = c .before .before .put-preamble .ensures in
+    begins _ (chosen-first (a .form) t (a .bound) (a .k) (c .before .before .before .before .if1 .taken)) (put .0) (omega (arith, put .1))
+
+sub-put-variable : tie.Need-sub-put-variable
+sub-put-variable c = search needs
+
+put-variable-requires : tie.Need-put-variable-requires
+put-variable-requires c κs =
+    let a = c .before .before .before .before .before .before in
+    (a .pre .0, a .pre .2, omega (arith, a .pre .3), omega (arith, c .before .before .before .fact-count .ensures, c .before .before .if1 .left, c .before .if2 .taken))
+
+same-length-2 : tie.Need-same-length-2
+same-length-2 c = search needs
+
+returns-2 : tie.Need-returns-2
+returns-2 c =
+    let a = c .before .before .before .before .before .before .before .before .before .args in
+    let t = tableOf (a .words .now) in
+    let put = c .before .before .put-variable .ensures in
+    begins _ (chosen-variable (a .form) t (a .bound) (a .k) (c .before .before .before .before .before .if1 .left) (omega (arith, c .before .before .before .before .before .before .fact-count .ensures, c .before .before .before .before .if2 .taken))) (put .0) (omega (arith, put .1))
+
+add-if3 : tie.Need-add-if3
+add-if3 c = search needs
+
+put-middle-requires : tie.Need-put-middle-requires
+put-middle-requires c κs = search needs
+
+same-length-3 : tie.Need-same-length-3
+same-length-3 c = search needs
+
+returns-3 : tie.Need-returns-3
+returns-3 c =
+    let a = c .before .before .before .before .before .before .before .before .before .before .args in
+    let t = tableOf (a .words .now) in
+    let put = c .before .before .put-middle .ensures in
+    begins _ (chosen-middle (a .form) t (a .bound) (a .k) (omega (arith, c .before .before .before .before .before .before .before .fact-count .ensures, c .before .before .before .before .if3 .taken))) (put .0) (omega (arith, put .1))
+
+sub-find : tie.Need-sub-find
+sub-find c = search needs
+
+sub-find-2 : tie.Need-sub-find-2
+sub-find-2 c = search needs
+
+find-requires : tie.Need-find-requires
+find-requires c κs = search needs
+
+enum-known-i : tie.Need-enum-known-i
+enum-known-i c = search needs
+
+put-operator-requires : tie.Need-put-operator-requires
+put-operator-requires c κs =
+    let a = c .before .before .before .before .before .before .before .before .before .before .before in
+    let n = a .args .k - (c .before .before .before .before .before .before .before .before .fact-count .result + 1 + a .args .bound) - 2 in
+    let found = subst (λ (r : Found). IsFound (a .args .form) (tableOf (a .args .words .now)) (a .args .bound) n r) (c .before .before .i .given .1) (c .before .before .before .before .find .ensures) in
+    ((a .pre .0, a .pre .2, found .step), (found .position, a .pre .3))
+
+enum-known-over : tie.Need-enum-known-over
+enum-known-over c = search needs
+
+slice-aggregate-put : tie.Need-slice-aggregate-put
+slice-aggregate-put c = search needs
+
+put-requires : tie.Need-put-requires
+put-requires c κs = search needs
+
+same-length-4 : tie.Need-same-length-4
+same-length-4 c = search needs
+
+returns-4 : tie.Need-returns-4
+returns-4 c =
+    let a = c .before .before .before .before .before .before .before .before .before .before .before .before .before .before .before .before .args in
+    let t = tableOf (a .words .now) in
+    let n = a .k - (c .before .before .before .before .before .before .before .before .before .before .before .before .before .fact-count .result + 1 + a .bound) - 2 in
+    let found = subst (λ (r : Found). IsFound (a .form) t (a .bound) n r) (c .before .before .before .before .before .before .before .over .given .1) (c .before .before .before .before .before .before .before .before .before .find .ensures) in
+    let e : a .k ≡ variableCount t (a .bound) + 2 + n = omega (arith, c .before .before .before .before .before .before .before .before .before .before .before .before .before .fact-count .ensures, c .before .before .before .before .before .before .before .before .before .before .before .if2 .left, c .before .before .before .before .before .before .before .before .before .before .if3 .left) in
+    let put = c .before .before .put .ensures in
+    begins _ (chosen-last (a .form) t (a .bound) (a .k) n e (omega (arith, found, c .before .before .before .before .before .if4 .taken))) put (omega (arith, put .next))
+
+same-length-5 : tie.Need-same-length-5
+same-length-5 c = search needs
+
+returns-5 : tie.Need-returns-5
+returns-5 c =
+    let a = c .before .before .before .before .before .before .before .before .before .before .before .before .before .before .args in
+    let t = tableOf (a .words .now) in
+    let n = a .k - (c .before .before .before .before .before .before .before .before .before .before .before .fact-count .result + 1 + a .bound) - 2 in
+    let found = subst (λ (r : Found). IsFound (a .form) t (a .bound) n r) (c .before .before .before .before .before .i .given .1) (c .before .before .before .before .before .before .before .find .ensures) in
+    let e : a .k ≡ variableCount t (a .bound) + 2 + n = omega (arith, c .before .before .before .before .before .before .before .before .before .before .before .fact-count .ensures, c .before .before .before .before .before .before .before .before .before .if2 .left, c .before .before .before .before .before .before .before .before .if3 .left) in
+    let put = c .before .before .put-operator .ensures in
+    begins _ (chosen-operator (a .form) t (a .bound) (a .k) n e _ _ found) (put .0) (put .1)
+
+returns-6 : tie.Need-returns-6
+returns-6 c =
+    let a = c .before .before .before .before .before .before .before .before .before .before .before .args in
+    let t = tableOf (a .words .now) in
+    let n = a .k - (c .before .before .before .before .before .before .before .before .fact-count .result + 1 + a .bound) - 2 in
+    let found = subst (λ (r : Found). IsFound (a .form) t (a .bound) n r) (c .before .before .over .given .1) (c .before .before .before .before .find .ensures) in
+    let e : a .k ≡ variableCount t (a .bound) + 2 + n = omega (arith, c .before .before .before .before .before .before .before .before .fact-count .ensures, c .before .before .before .before .before .before .if2 .left, c .before .before .before .before .before .if3 .left) in
+    refused (a .space .now) _ (chosen-none (a .form) t (a .bound) (a .k) n e _ found (c .if4 .left))
+
+pub put-section-spec : {M : Type 1} → statement M
+put-section-spec =
+    tie.close
+    (tie.spec
+    fact-count-requires
+    add-variables
+    add-variables-2
+    put-preamble-requires
+    same-length
+    returns
+    sub-put-variable
+    put-variable-requires
+    same-length-2
+    returns-2
+    add-if3
+    put-middle-requires
+    same-length-3
+    returns-3
+    sub-find
+    sub-find-2
+    find-requires
+    enum-known-i
+    put-operator-requires
+    enum-known-over
+    slice-aggregate-put
+    put-requires
+    same-length-4
+    returns-4
+    same-length-5
+    returns-5
+    returns-6)

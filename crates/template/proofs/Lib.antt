@@ -1,0 +1,3 @@
+mod ChunkLaws
+mod FigureLaws
+pub mod TemplateLaws

@@ -1,0 +1,2 @@
+pub mod AppendLaws
+mod FactLines
