@@ -4,24 +4,40 @@ KIT := $(patsubst %/docs/START-HERE.md,%,$(shell rt doc))
 TOOL := $(KIT)/on/$(shell uname -m)/toolchain
 LIB := $(TOOL)/lib
 LOADER := $(LIB)/ld-linux-x86-64.so.2
-EMULATOR := $(if $(filter x86_64,$(shell uname -m)),,$(TOOL)/bin/qemu-x86_64)
+QEMU := $(TOOL)/bin/qemu-x86_64
+# The plain processor: on the others the C library clears memory byte by byte, which is fast everywhere but here.
+EMULATOR := $(if $(filter x86_64,$(shell uname -m)),,$(QEMU) -cpu qemu64)
 RUN := $(EMULATOR) $(LOADER) --library-path $(LIB)
-CC := $(TOOL)/bin/clang --target=x86_64-unknown-linux-gnu -std=c11 -O2 -fPIC -Wall -Wextra -Iinclude -isystem c/freestanding
+CLANG := $(TOOL)/bin/clang --target=x86_64-unknown-linux-gnu -O2 -fPIC -Wall -Wextra -Wpedantic -Iinclude -Ic -isystem c/freestanding
+CC := $(CLANG) -std=c11
+CXX := $(CLANG) -x c++ -std=c++11
 LINK := $(TOOL)/bin/ld.lld -pie --dynamic-linker $(LOADER)
 BEFORE := $(LIB)/Scrt1.o $(LIB)/crti.o $(LIB)/crtbeginS.o
 AFTER := $(LIB)/libc.so.6 $(LIB)/libc_nonshared.a $(LIB)/libgcc.a $(LIB)/crtendS.o $(LIB)/crtn.o
 OUT := target/c
+OBJ := $(OUT)/obj
 ARCHIVE := target/staticlib/libconsole.a
+HEADERS := include/ildorzhen.h $(wildcard c/*/*.h)
+PLAIN := $(addprefix $(OBJ)/plain/,table.o operators.o least.o plan.o text.o)
+COMPARE := $(addprefix $(OBJ)/,compare.o compare/generate.o compare/plans.o)
 
-.PHONY: plan count test archive
+.PHONY: march compare bench test archive programs
 
-# A whole plan and a half plan against a table.
-plan: $(OUT)/plan
-	$(RUN) $(OUT)/plan
+# The console on the night of March: prints what it says, then compares that with c/march.out. Header and program are C++ too.
+march: $(OUT)/march
+	$(CXX) -Werror -fsyntax-only c/march.c
+	$(RUN) $(OUT)/march > $(OUT)/march.out
+	@cat $(OUT)/march.out
+	@diff c/march.out $(OUT)/march.out && echo 'march: as in c/march.out'
 
-# The console's questions about three tables.
-count: $(OUT)/count
-	$(RUN) $(OUT)/count
+# Every call against the plain C, on generated inputs.
+compare: $(OUT)/compare
+	$(RUN) $(OUT)/compare
+
+# Instructions against the plain C's.
+bench: $(OUT)/bench-ours $(OUT)/bench-plain $(OUT)/plain-emit $(OUT)/plain-verify programs
+	c/bench/run $(QEMU) $(LOADER) $(LIB) $(OUT)/bench-ours $(OUT)/bench-plain \
+	    target/bin/emit $(OUT)/plain-emit target/bin/verify $(OUT)/plain-verify
 
 # The gate.
 test:
@@ -30,7 +46,24 @@ test:
 archive:
 	rt staticlib console
 
-$(OUT)/%: c/%.c include/ildorzhen.h c/freestanding/*.h archive
-	mkdir -p $(OUT)
-	$(CC) -c $< -o $@.o
-	$(LINK) -o $@ $(BEFORE) $@.o $(ARCHIVE) $(AFTER)
+programs:
+	rt check verify emit
+
+$(OBJ)/%.o: c/%.c $(HEADERS)
+	mkdir -p $(@D)
+	$(CC) -c $< -o $@
+
+$(OUT)/compare: $(COMPARE) $(PLAIN) archive
+	$(LINK) -o $@ $(BEFORE) $(COMPARE) $(PLAIN) $(ARCHIVE) $(AFTER)
+
+$(OUT)/bench-ours: $(OBJ)/bench/ours.o archive
+	$(LINK) -o $@ $(BEFORE) $< $(ARCHIVE) $(AFTER)
+
+$(OUT)/bench-plain: $(OBJ)/bench/plain.o $(PLAIN)
+	$(LINK) -o $@ $(BEFORE) $^ $(AFTER)
+
+$(OUT)/plain-%: $(OBJ)/plain/%.o $(PLAIN)
+	$(LINK) -o $@ $(BEFORE) $^ $(AFTER)
+
+$(OUT)/%: $(OBJ)/%.o archive
+	$(LINK) -o $@ $(BEFORE) $< $(ARCHIVE) $(AFTER)

@@ -1,6 +1,8 @@
-/* What include/ildorzhen.h needs of <stdint.h>, for a compiler that comes without C's headers. */
+/* What the C here needs of <stdint.h>, for a compiler that comes without C's headers. */
 #ifndef FREESTANDING_STDINT_H
 #define FREESTANDING_STDINT_H
 typedef __UINT8_TYPE__ uint8_t;
+typedef __UINT16_TYPE__ uint16_t;
+typedef __UINT32_TYPE__ uint32_t;
 typedef __UINT64_TYPE__ uint64_t;
 #endif

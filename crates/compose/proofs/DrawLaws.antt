@@ -2,7 +2,6 @@
 use Prim.Native.Nat.{ℕ, _+_, _≤_}
 use mathlib.Core.Path.{_≡_, refl, ap, _∙_}
 use mathlib.Core.List.{List, [], _++_, append-assoc, append-nil}
-use native.Mathlib.Nat.{le-refl}
 use native.Mathlib.Omega.{arith}
 use lib.ListN.{length}
 use Rattle.rules.specs.Texts.{digits}
@@ -111,7 +110,11 @@ room-after r d h k =
     }
 
 -- The room for a whole operator.
-pub room-all : (t lens offs : List ℕ) → 2112 ≤ length t → 12 ≤ length lens → 12 ≤ length offs
+pub room-all : (t lens offs : List ℕ) → (2112 ≤ length t) × (12 ≤ length lens) × (12 ≤ length offs)
     → Room 1250 11 t lens offs (record { at = 0; from = 0; count = 0 })
-room-all t lens offs h k l =
-    record { space = record { reach = omega arith; bytes = omega arith }; lengths = omega arith; offsets = omega arith }
+room-all t lens offs h =
+    record {
+      space = record { reach = omega arith; bytes = omega (arith, h .0) };
+      lengths = omega (arith, h .1);
+      offsets = omega (arith, h .2);
+    }

@@ -1,12 +1,12 @@
 -- Prepared rows: their lines are the operators' texts, and they keep to what composing asks.
-use mathlib.Core.Path.{_≡_, refl, sym, ap, subst, _∙_}
-use mathlib.Core.List.{List, [], _∷_}
+use mathlib.Core.Path.{_≡_, sym, ap, subst, _∙_}
+use mathlib.Core.List.{List}
 use Prim.Native.Nat.{ℕ, _+_, _-_, _^_, _≤_, _<_}
 use native.Mathlib.Omega.{arith}
 use lib.ListN.{length, getD, length-drop}
 use lib.Seq.{getD-drop}
 use Rattle.rules.specs.Tables.{Table, actionCount, methodCount, factCount, taskCount, method}
-use Rattle.rules.specs.Progression.{Step, act, mth, prefix}
+use Rattle.rules.specs.Progression.{Step, prefix}
 use Rattle.rules.specs.Operators.{taskOf, leaves}
 use Rattle.rules.specs.Sections.{nameOf, operatorLines, operatorText}
 use Rattle.laws.specs.Valid.{Valid}

@@ -254,8 +254,9 @@ fn pushes(
     let mut next = pen;
     let mut h: usize = 1;
     while h < stay as usize {
+        let below = h - 1;
         let task = cells[h] as u64;
-        next = push(t, lens, offs, next, top, h - 1, task);
+        next = push(t, lens, offs, next, top, below, task);
         h += 1;
     }
     next

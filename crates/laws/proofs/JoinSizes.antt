@@ -1,5 +1,5 @@
 -- The joined sets of a valid table's steps are sets of its facts.
-use Prim.Native.Nat.{ℕ, zero, suc, _-_, _^_, _≤_, _<_}
+use Prim.Native.Nat.{ℕ, _-_, _^_, _≤_, _<_}
 use mathlib.Core.Path.{_≡_, refl}
 use mathlib.Core.Bool.{Bool, true, false, cond}
 use mathlib.Core.List.{List, [], _∷_, map}
@@ -9,7 +9,7 @@ use lib.Dec.{ltb, ltb→lt}
 use lib.Pow.{pow-pos}
 use Rattle.rules.specs.Tables.{Table, Action, actionCount, factCount, allFacts, action}
 use Rattle.rules.specs.Facts.{Join, without, noJoin, joinOne, joinFrom, joinOf}
-use Rattle.rules.specs.Progression.{Step, act, mth, prefix}
+use Rattle.rules.specs.Progression.{act, mth, prefix}
 use Rattle.rules.specs.Operators.{joined}
 use Rattle.laws.specs.Valid.{Valid, GoodAction}
 use Rattle.laws.specs.Joins.{Within}

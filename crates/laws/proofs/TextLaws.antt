@@ -75,9 +75,6 @@ module _ {A : Type 0} (f : ℕ → List A) where
   upto-below m (suc n) h =
       rw (length-append, mul-suc) (omega (arith, upto-below m n (λ k l. h k (omega arith)), h n (omega arith)))
 
-  pub upto-most : (m : ℕ) → ((k : ℕ) → length (f k) ≤ m) → (n : ℕ) → length (upto f n) ≤ m * n
-  upto-most m h n = upto-below m n (λ k _. h k)
-
   -- The first part before the others.
   pub upto-first : (n : ℕ) → upto f (suc n) ≡ f zero ++ upto (λ k. f (suc k)) n
   unfolding upto

@@ -22,9 +22,6 @@ module _ (w : List ℕ) (h : Held w) (k : ℕ) (l : k < methodCount (tableOf w))
   pub width-small : length (method (tableOf w) k .subs) ≤ 8
   width-small = h .valid .method k l .count
 
-  pub method-room : 1027 + 10 * k + 10 ≤ length w
-  method-room = omega (arith, h .size, h .valid .head .methods)
-
   pub subtask-is : (j : ℕ) → j < length (method (tableOf w) k .subs) → getD (method (tableOf w) k .subs) j 0 ≡ getD w (1027 + 10 * k + 2 + j) 0
   subtask-is j i =
       ap (λ (m : Method). getD (m .subs) j 0) (method-is w k l)
@@ -32,7 +29,3 @@ module _ (w : List ℕ) (h : Held w) (k : ℕ) (l : k < methodCount (tableOf w))
 
   pub subtask-low : (j : ℕ) → j < length (method (tableOf w) k .subs) → getD (method (tableOf w) k .subs) j 0 < taskCount (tableOf w)
   subtask-low j i = omega (arith, h .valid .method k l .subs j i, h .valid .head .abstracts)
-
-module _ (w : List ℕ) (h : Held w) (k : ℕ) (l : k < actionCount (tableOf w)) where
-  pub action-room : 7 + 4 * k + 4 ≤ length w
-  action-room = omega (arith, h .size, h .valid .head .actions)

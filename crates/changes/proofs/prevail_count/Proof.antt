@@ -1,6 +1,6 @@
 use borrow.Author.Needs.{needs}
 use native.Mathlib.Omega.{arith}
-use Prim.Native.Nat.{_+_, _-_}
+use Prim.Native.Nat.{_+_}
 use lib.Count.{ones, ones-le}
 use Rattle.changes.proofs.prevail_count.Statement.{statement}
 use Rattle.changes.proofs.prevail_count.Tie as tie

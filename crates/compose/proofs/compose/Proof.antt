@@ -4,7 +4,7 @@ use Rattle.rules.specs.Texts.{digits}
 use Rattle.template.proofs.TemplateLaws.{drawn-none, drawn-is}
 use Rattle.rows.specs.Rows.{rowAt}
 use Rattle.compose.specs.RowTexts.{setsOf}
-use Rattle.compose.proofs.DrawLaws.{_▹_, space-after, room-after, room-all}
+use Rattle.compose.proofs.DrawLaws.{_▹_, space-after, room-less, room-after, room-all}
 use Rattle.compose.proofs.LineLaws.{operator-cut, few-numbers, kept-low, altered-low, tasks-fit}
 use lib.ListN.{getD}
 use Rattle.compose.proofs.compose.Statement.{statement}
@@ -41,60 +41,80 @@ bottom-of-requires c κs =
 
 opening-requires : tie.Need-opening-requires
 opening-requires c κs =
-    let s = c .before .before .before .before .before .before .before .before .before .before .before .before .before .before .before .pre in (
-      record {
-        space = record { reach = omega arith; bytes = omega (arith, s .1 .0) };
-        lengths = omega (arith, s .1 .1);
-        offsets = omega (arith, s .1 .2);
-      },
-      s .0 .number,
-    )
+    let s = c .before .before .before .before .before .before .before .before .before .before .before .before .before .before .before in
+    let a = s .args in
+    (room-less (room-all (a .t .now) (a .lens .now) (a .offs .now) (s .pre .1)) (omega arith) (omega arith), s .pre .0 .number)
 
 prevails-requires : tie.Need-prevails-requires
 prevails-requires c κs =
-    let s = c .before .before .before .before .before .before .before .before .before .before .before .before .before .before .before .before .before .before .before .before .before .before .before .before .before in
+    let o = c .before .before .before .before .before .before .before .before .before in
+    let b = o .before .before .before .before in
+    let s = b .before .before .before .before .before .before .before .before .before .before .before .before in
     let a = s .args in
     let f = s .pre .0 in
-    let n = few-numbers (getD (a .cells .now) 9 0) (getD (a .cells .now) 8 0) (c .before .before .before .before .before .before .before .before .before .before .before .before .before .bottom-of .result) (f .stay) in
-    (room-after (room-all (a .t .now) (a .lens .now) (a .offs .now) (s .pre .1 .0) (s .pre .1 .1) (s .pre .1 .2)) (c .before .before .before .before .before .before .before .before .before .opening .ensures) (omega arith) (omega (arith, n)), f .facts, f .task)
+    let n = few-numbers (getD (a .cells .now) 9 0) (getD (a .cells .now) 8 0) (b .bottom-of .result) (f .stay) in
+    (room-after (room-all (a .t .now) (a .lens .now) (a .offs .now) (s .pre .1)) (o .opening .ensures) (omega arith) (omega (arith, n)), f .facts, f .task)
 
 effects-requires : tie.Need-effects-requires
 effects-requires c κs =
-    let s = c .before .before .before .before .before .before .before .before .before .before .before .before .before .before .before .before .before .before .before .before .before .before .before .before .before .before .before .before .before .before .before .before .before .before .before in
+    let p = c .before .before .before .before .before .before .before .before .before in
+    let o = p .before .before .before .before .before .before .before .before .before .before in
+    let b = o .before .before .before .before in
+    let s = b .before .before .before .before .before .before .before .before .before .before .before .before in
     let a = s .args in
     let f = s .pre .0 in
-    let r = room-all (a .t .now) (a .lens .now) (a .offs .now) (s .pre .1 .0) (s .pre .1 .1) (s .pre .1 .2) in
-    let n = few-numbers (getD (a .cells .now) 9 0) (getD (a .cells .now) 8 0) (c .before .before .before .before .before .before .before .before .before .before .before .before .before .before .before .before .before .before .before .before .before .before .before .bottom-of .result) (f .stay) in
-    (room-after r (c .before .before .before .before .before .before .before .before .before .before .before .before .before .before .before .before .before .before .before .opening .ensures ▹ c .before .before .before .before .before .before .before .before .before .prevails .ensures) (omega arith) (omega (arith, n)), f .facts, f .task, c .before .before .before .before .before .before .before .before .before .before .before .before .before .before .before .before .before .before .before .before .before .before .before .bottom-of .ensures .1, tasks-fit f)
+    let n = few-numbers (getD (a .cells .now) 9 0) (getD (a .cells .now) 8 0) (b .bottom-of .result) (f .stay) in (
+      room-after (room-all (a .t .now) (a .lens .now) (a .offs .now) (s .pre .1)) (o .opening .ensures ▹ p .prevails .ensures) (omega arith) (omega (arith, n)),
+      f .facts,
+      f .task,
+      b .bottom-of .ensures .1,
+      tasks-fit f,
+    )
 
 ending-requires : tie.Need-ending-requires
 ending-requires c κs =
-    let s = c .before .before .before .before .before .before .before .before .before .before .before .before .before .before .before .before .before .before .before .before .before .before .before .before .before .before .before .before .before .before .before .before .before .before .before .before .before .before .before .before .before .before .before in
+    let e = c .before .before .before .before .before .before .before in
+    let p = e .before .before .before .before .before .before .before .before .before .before in
+    let o = p .before .before .before .before .before .before .before .before .before .before in
+    let s = o .before .before .before .before .before .before .before .before .before .before .before .before .before .before .before .before in
     let a = s .args in
-    let r = room-all (a .t .now) (a .lens .now) (a .offs .now) (s .pre .1 .0) (s .pre .1 .1) (s .pre .1 .2) in
-    space-after (r .space) (c .before .before .before .before .before .before .before .before .before .before .before .before .before .before .before .before .before .before .before .before .before .before .before .before .before .before .before .opening .ensures ▹ c .before .before .before .before .before .before .before .before .before .before .before .before .before .before .before .before .before .prevails .ensures ▹ c .before .before .before .before .before .before .before .effects .ensures) (omega arith)
+    space-after (room-all (a .t .now) (a .lens .now) (a .offs .now) (s .pre .1) .space) (o .opening .ensures ▹ p .prevails .ensures ▹ e .effects .ensures) (omega arith)
 
 same-length : tie.Need-same-length
-same-length c = (c .before .before .before .before .before .before .before .before .before .before .before .before .before .before .before .before .before .before .before .before .before .before .before .before .before .before .before .before .before .before .opening .ensures ▹ c .before .before .before .before .before .before .before .before .before .before .before .before .before .before .before .before .before .before .before .before .prevails .ensures ▹ c .before .before .before .before .before .before .before .before .before .before .effects .ensures ▹ c .before .before .ending .ensures _ _) .size
+same-length c =
+    let e = c .before .before .before .before .before .before .before .before .before .before in
+    let p = e .before .before .before .before .before .before .before .before .before .before in
+    let o = p .before .before .before .before .before .before .before .before .before .before in
+    (o .opening .ensures ▹ p .prevails .ensures ▹ e .effects .ensures ▹ c .before .before .ending .ensures _ _) .size
 
 same-length-2 : tie.Need-same-length-2
-same-length-2 c = (c .before .before .before .before .before .before .before .before .before .before .before .before .before .before .before .before .before .before .before .before .before .before .before .before .before .before .before .before .before .before .opening .ensures ▹ c .before .before .before .before .before .before .before .before .before .before .before .before .before .before .before .before .before .before .before .before .prevails .ensures ▹ c .before .before .before .before .before .before .before .before .before .before .effects .ensures) .lengths
+same-length-2 c =
+    let e = c .before .before .before .before .before .before .before .before .before .before in
+    let p = e .before .before .before .before .before .before .before .before .before .before in
+    (p .before .before .before .before .before .before .before .before .before .before .opening .ensures ▹ p .prevails .ensures ▹ e .effects .ensures) .lengths
 
 same-length-3 : tie.Need-same-length-3
-same-length-3 c = (c .before .before .before .before .before .before .before .before .before .before .before .before .before .before .before .before .before .before .before .before .before .before .before .before .before .before .before .before .before .before .opening .ensures ▹ c .before .before .before .before .before .before .before .before .before .before .before .before .before .before .before .before .before .before .before .before .prevails .ensures ▹ c .before .before .before .before .before .before .before .before .before .before .effects .ensures) .offsets
+same-length-3 c =
+    let e = c .before .before .before .before .before .before .before .before .before .before in
+    let p = e .before .before .before .before .before .before .before .before .before .before in
+    (p .before .before .before .before .before .before .before .before .before .before .opening .ensures ▹ p .prevails .ensures ▹ e .effects .ensures) .offsets
 
 returns : tie.Need-returns
 returns c =
-    let s = c .before .before .before .before .before .before .before .before .before .before .before .before .before .before .before .before .before .before .before .before .before .before .before .before .before .before .before .before .before .before .before .before .before .before .before .before .before .before .before .before .before .before .before .before .before .before in
+    let e = c .before .before .before .before .before .before .before .before .before .before in
+    let p = e .before .before .before .before .before .before .before .before .before .before in
+    let o = p .before .before .before .before .before .before .before .before .before .before in
+    let b = o .before .before .before .before in
+    let s = b .before .before .before .before .before .before .before .before .before .before .before .before in
     let f = s .pre .0 in
     let a = s .args in
-    let b = c .before .before .before .before .before .before .before .before .before .before .before .before .before .before .before .before .before .before .before .before .before .before .before .before .before .before .before .before .before .before .before .before .before .before .bottom-of in
     let row = rowAt (a .ops .now) (a .cells .now) 0 in
     let stay = getD (a .cells .now) 9 0 in
-    let d = c .before .before .before .before .before .before .before .before .before .before .before .before .before .before .before .before .before .before .before .before .before .before .before .before .before .before .before .before .before .before .opening .ensures ▹ c .before .before .before .before .before .before .before .before .before .before .before .before .before .before .before .before .before .before .before .before .prevails .ensures ▹ c .before .before .before .before .before .before .before .before .before .before .effects .ensures ▹ c .before .before .ending .ensures _ _ in
-    let n = few-numbers stay (row .task) (b .result) (f .stay) in (
+    let d = o .opening .ensures ▹ p .prevails .ensures ▹ e .effects .ensures ▹ c .before .before .ending .ensures _ _ in
+    let bottom = b .bottom-of in
+    let n = few-numbers stay (row .task) (bottom .result) (f .stay) in (
       drawn-is (d .drawn (λ p. []) (drawn-none (a .t .now) (a .lens .now) (a .offs .now)))
-          (λ p. operator-cut (a .top) (a .free) (setsOf row) (row .task) (a .cells .now) stay p (b .result) (b .ensures .0) (a .letter ∷ digits (a .k)) (row .cost) (kept-low f) (altered-low f)),
+          (λ p. operator-cut (a .top) (a .free) (setsOf row) (row .task) (a .cells .now) stay p (bottom .result) (bottom .ensures .0) (a .letter ∷ digits (a .k)) (row .cost) (kept-low f) (altered-low f)),
       (omega (arith, d .most, d .count, n), d .size),
     )
 

@@ -14,17 +14,20 @@ slice-aggregate-put c = search needs
 
 put-requires : tie.Need-put-requires
 put-requires c κs =
-    let n = c .before .before .before .before .put-number .ensures in
-    omega (arith, c .before .before .before .before .before .before .before .pre .bytes, n .1, n .0 .size)
+    let t = c .before .before .before .before in
+    let n = t .put-number .ensures in
+    omega (arith, t .before .before .before .pre .bytes, n .1, n .0 .size)
 
 same-length : tie.Need-same-length
 same-length c = search needs
 
 returns : tie.Need-returns
 returns c =
-    let s = c .before .before .before .before .before .before .before .before .before .before in
-    let n = c .before .before .before .before .before .before .before .put-number .ensures in
-    let e = c .before .before .put .ensures in
+    let p = c .before .before in
+    let t = p .before .before .before .before .before in
+    let s = t .before .before .before in
+    let n = t .put-number .ensures in
+    let e = p .put .ensures in
     λ lens offs. draws-text (s .pre) (omega (arith, n .1, e .next)) (appends-is (ending-words (s .args .cost)) (n .0 ▸ e))
 
 pub ending-spec : {M : Type 1} → statement M

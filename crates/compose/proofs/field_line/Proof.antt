@@ -18,7 +18,7 @@ write-requires : tie.Need-write-requires
 write-requires c κs = space-after (c .before .before .before .before .before .before .before .before .pre .0) (c .before .before .before .before .field .ensures [] []) (omega arith)
 
 same-length : tie.Need-same-length
-same-length c = (c .before .before .before .before .before .before .before .field .ensures [] [] ▹ c .before .before .write .ensures [] []) .size
+same-length c = search needs
 
 returns : tie.Need-returns
 returns c = λ lens offs. draws-is (omega arith) (omega arith) (λ p. refl) (c .before .before .before .before .before .before .before .field .ensures lens offs ▹ c .before .before .write .ensures lens offs)

@@ -1,5 +1,5 @@
 use borrow.Author.Needs.{needs}
-use mathlib.Core.Path.{refl, _∙_}
+use mathlib.Core.Path.{refl}
 use mathlib.Core.List.{[]}
 use native.Mathlib.Omega.{arith}
 use Rattle.compose.proofs.DrawLaws.{_▹_, draws-is, draws-text, space-less, space-after}
@@ -20,14 +20,15 @@ put-members-requires c κs =
     (space-after {c = 384} (s .0) (c .before .before .before .field-line .ensures [] []) (omega arith) .bytes, s .2)
 
 same-length : tie.Need-same-length
-same-length c = c .before .before .put-members .ensures .0 .size ∙ c .before .before .before .before .before .before .field-line .ensures [] [] .size
+same-length c = search needs
 
 returns : tie.Need-returns
 returns c =
-    let n = c .before .before .before .before .before .before .field-line .ensures in
-    let p = c .before .before .put-members .ensures in
+    let p = c .before .before in
+    let l = p .before .before .before .before in
+    let n = l .field-line .ensures in
     λ lens offs. draws-is (omega arith) (omega arith) (λ q. refl)
-    (n lens offs ▹ draws-text (space-after (c .before .before .before .before .before .before .before .before .before .before .pre .0) (n lens offs) (omega arith)) (p .1) (p .0))
+    (n lens offs ▹ draws-text (space-after (l .before .before .before .before .pre .0) (n lens offs) (omega arith)) (p .put-members .ensures .1) (p .put-members .ensures .0))
 
 pub kept-lines-spec : {M : Type 1} → statement M
 kept-lines-spec =

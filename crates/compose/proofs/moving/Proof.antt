@@ -1,5 +1,4 @@
 use borrow.Author.Needs.{needs}
-use native.Mathlib.Nat.{le-refl}
 use native.Mathlib.Omega.{arith}
 use mathlib.Core.Path.{refl}
 use mathlib.Core.List.{[]}
@@ -12,9 +11,10 @@ write-requires c κs = c .before .before .before .before .before .pre .0 .space
 
 number-requires : tie.Need-number-requires
 number-requires c κs =
-    let r = c .before .before .before .before .before .before .before .before .before .before .pre .0 in
-    let w = c .before .before .before .before .write .ensures [] [] in
-    (w .reach, omega (arith, r .lengths, w .count), omega (arith, r .offsets, w .count), c .before .before .before .before .before .before .before .before .before .before .pre .1)
+    let t = c .before .before .before .before in
+    let s = t .before .before .before .before .before .before .pre in
+    let w = t .write .ensures [] [] in
+    (w .reach, omega (arith, s .0 .lengths, w .count), omega (arith, s .0 .offsets, w .count), s .1)
 
 same-length : tie.Need-same-length
 same-length c = search needs
@@ -27,8 +27,9 @@ same-length-3 c = search needs
 
 returns : tie.Need-returns
 returns c =
-    let n = c .before .before .before .before .number .ensures in
-    draws-is (omega arith) (omega arith) (λ p. refl) (c .before .before .before .before .before .before .before .before .before .write .ensures _ _ ▹ draws-number _ (n .0) (n .1 .0) (n .1 .1))
+    let t = c .before .before .before .before in
+    let n = t .number .ensures in
+    draws-is (omega arith) (omega arith) (λ p. refl) (t .before .before .before .before .before .write .ensures _ _ ▹ draws-number _ (n .0) (n .1 .0) (n .1 .1))
 
 pub moving-spec : {M : Type 1} → statement M
 moving-spec =

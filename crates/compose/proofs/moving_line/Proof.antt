@@ -1,6 +1,5 @@
 use borrow.Author.Needs.{needs}
 use mathlib.Core.Path.{refl}
-use mathlib.Core.List.{[]}
 use native.Mathlib.Omega.{arith}
 use Rattle.compose.proofs.DrawLaws.{_▹_, draws-is, room-less, space-after}
 use Rattle.compose.proofs.moving_line.Statement.{statement}
@@ -15,19 +14,23 @@ slice-aggregate-write : tie.Need-slice-aggregate-write
 slice-aggregate-write c = search needs
 
 write-requires : tie.Need-write-requires
-write-requires c κs = space-after (c .before .before .before .before .before .before .before .before .before .before .before .before .before .before .before .before .pre .0 .space) (c .before .before .before .before .before .before .before .before .moving .ensures) (omega arith)
+write-requires c κs =
+    let m = c .before .before .before .before .before .before .before .before in
+    space-after (m .before .before .before .before .before .before .before .before .pre .0 .space) (m .moving .ensures) (omega arith)
 
 same-length : tie.Need-same-length
-same-length c = (c .before .before .before .before .before .before .before .before .before .before .before .moving .ensures ▹ c .before .before .write .ensures _ _) .size
+same-length c = search needs
 
 same-length-2 : tie.Need-same-length-2
-same-length-2 c = c .before .before .before .before .before .before .before .before .before .before .before .moving .ensures .lengths
+same-length-2 c = search needs
 
 same-length-3 : tie.Need-same-length-3
-same-length-3 c = c .before .before .before .before .before .before .before .before .before .before .before .moving .ensures .offsets
+same-length-3 c = search needs
 
 returns : tie.Need-returns
-returns c = draws-is (omega arith) (omega arith) (λ p. refl) (c .before .before .before .before .before .before .before .before .before .before .before .moving .ensures ▹ c .before .before .write .ensures _ _)
+returns c =
+    let w = c .before .before in
+    draws-is (omega arith) (omega arith) (λ p. refl) (w .before .before .before .before .before .before .before .before .before .moving .ensures ▹ w .write .ensures _ _)
 
 pub moving-line-spec : {M : Type 1} → statement M
 moving-line-spec =

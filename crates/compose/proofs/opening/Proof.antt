@@ -24,22 +24,27 @@ slice-aggregate-moving-line : tie.Need-slice-aggregate-moving-line
 slice-aggregate-moving-line c = search needs
 
 moving-line-requires : tie.Need-moving-line-requires
-moving-line-requires c κs = (room-after (c .before .before .before .before .before .before .before .before .before .before .before .before .before .before .before .before .before .pre .0) (c .before .before .before .before .before .before .before .before .before .before .before .write .ensures _ _ ▹ c .before .before .before .before .before .before .field .ensures _ _) (omega arith) (omega arith), omega arith)
+moving-line-requires c κs =
+    let f = c .before .before .before .before .before .before in
+    let w = f .before .before .before .before .before in
+    (room-after (w .before .before .before .before .before .before .pre .0) (w .write .ensures _ _ ▹ f .field .ensures _ _) (omega arith) (omega arith), omega arith)
 
 same-length : tie.Need-same-length
-same-length c = (c .before .before .before .before .before .before .before .before .before .before .before .before .before .before .before .before .before .before .write .ensures _ _ ▹ c .before .before .before .before .before .before .before .before .before .before .before .before .before .field .ensures _ _ ▹ c .before .before .before .before .before .before .moving-line .ensures) .size
+same-length c = search needs
 
 same-length-2 : tie.Need-same-length-2
-same-length-2 c = c .before .before .before .before .before .before .moving-line .ensures .lengths
+same-length-2 c = search needs
 
 same-length-3 : tie.Need-same-length-3
-same-length-3 c = c .before .before .before .before .before .before .moving-line .ensures .offsets
+same-length-3 c = search needs
 
 returns : tie.Need-returns
 returns c =
-    let a = c .before .before .before .before .before .before .before .before .before .before .before .before .before .before .before .before .before .before .before .before .before .before .before .before .args in
-    draws-is (omega arith) (omega arith) (opening-words (a .letter) (a .k))
-    (c .before .before .before .before .before .before .before .before .before .before .before .before .before .before .before .before .before .before .write .ensures _ _ ▹ c .before .before .before .before .before .before .before .before .before .before .before .before .before .field .ensures _ _ ▹ c .before .before .before .before .before .before .moving-line .ensures)
+    let m = c .before .before .before .before .before .before in
+    let f = m .before .before .before .before .before .before .before in
+    let w = f .before .before .before .before .before in
+    let a = w .before .before .before .before .before .before .args in
+    draws-is (omega arith) (omega arith) (opening-words (a .letter) (a .k)) (w .write .ensures _ _ ▹ f .field .ensures _ _ ▹ m .moving-line .ensures)
 
 pub opening-spec : {M : Type 1} → statement M
 opening-spec =

@@ -24,22 +24,25 @@ slice-aggregate-field-line c = search needs
 
 field-line-requires : tie.Need-field-line-requires
 field-line-requires c κs =
-    let s = c .before .before .before .before .before .before .before .before .before .before .before .before .before .before .before .before .pre in
-    (space-after (s .0 .space) (c .before .before .before .before .before .before .before .before .moving .ensures) (omega arith), s .3)
+    let m = c .before .before .before .before .before .before .before .before in
+    let s = m .before .before .before .before .before .before .before .before .pre in
+    (space-after (s .0 .space) (m .moving .ensures) (omega arith), s .3)
 
 same-length : tie.Need-same-length
-same-length c = (c .before .before .before .before .before .before .before .before .before .before .before .moving .ensures ▹ c .before .before .field-line .ensures _ _) .size
+same-length c = search needs
 
 same-length-2 : tie.Need-same-length-2
-same-length-2 c = c .before .before .before .before .before .before .before .before .before .before .before .moving .ensures .lengths
+same-length-2 c = search needs
 
 same-length-3 : tie.Need-same-length-3
-same-length-3 c = c .before .before .before .before .before .before .before .before .before .before .before .moving .ensures .offsets
+same-length-3 c = search needs
 
 returns : tie.Need-returns
 returns c =
-    let a = c .before .before .before .before .before .before .before .before .before .before .before .before .before .before .before .before .before .before .before .args in
-    draws-is (omega arith) (omega arith) (push-words (a .top) (a .j) (a .task)) (c .before .before .before .before .before .before .before .before .before .before .before .moving .ensures ▹ c .before .before .field-line .ensures _ _)
+    let l = c .before .before in
+    let m = l .before .before .before .before .before .before .before .before .before in
+    let a = m .before .before .before .before .before .before .before .before .args in
+    draws-is (omega arith) (omega arith) (push-words (a .top) (a .j) (a .task)) (m .moving .ensures ▹ l .field-line .ensures _ _)
 
 pub push-spec : {M : Type 1} → statement M
 push-spec =

@@ -1,18 +1,18 @@
 use borrow.Author.Needs.{needs}
-use Prim.Native.Nat.{_+_, _*_, _-_, _≤_}
+use Prim.Native.Nat.{_*_, _-_, _≤_}
 use native.Mathlib.Omega.{arith}
 use Rattle.compose.specs.Draws.{Draws}
-use Rattle.compose.specs.Pieces.{pushes}
 use mathlib.Core.Path.{_≡_, refl, ap}
 use Rattle.rules.specs.Lists.{upto}
-use Rattle.compose.specs.Pieces.{pushed}
+use Rattle.compose.specs.Pieces.{pushed, pushes}
 use Rattle.compose.proofs.DrawLaws.{_▹_, draws-none, draws-is, room-after}
 use Rattle.compose.proofs.PieceLaws.{pushes-more}
 use Rattle.compose.proofs.pushes.Statement.{statement}
 use Rattle.compose.proofs.pushes.Tie as tie
 
 abbrev Inv-loop : tie.InvT-loop
-Inv-loop t₀ lens₀ offs₀ top stay cells next₀ h₀ t lens offs next h = Draws t₀ lens₀ offs₀ next₀ (pushes top cells h) (10 * (h - 1)) (h - 1) t lens offs next × (1 ≤ h) × (h - 1 ≤ stay - 1)
+Inv-loop t₀ lens₀ offs₀ top stay cells next₀ h₀ t lens offs next h =
+    Draws t₀ lens₀ offs₀ next₀ (pushes top cells h) (10 * (h - 1)) (h - 1) t lens offs next × (1 ≤ h) × (h - 1 ≤ stay - 1)
 
 abbrev μ-loop : tie.MeasureT-loop
 μ-loop t₀ lens₀ offs₀ top stay cells next₀ h₀ t lens offs next h = stay - h
@@ -20,6 +20,9 @@ abbrev μ-loop : tie.MeasureT-loop
 loop-holds : tie.Need-loop-holds Inv-loop μ-loop
 unfolding upto
 loop-holds c = (draws-none (c .before .before .before .before .pre .0 .space .reach) (λ p. refl), omega arith, omega arith)
+
+sub-below : tie.Need-sub-below Inv-loop μ-loop
+sub-below c = omega (arith, c .before .loop .inv .1)
 
 mul-task : tie.Need-mul-task Inv-loop μ-loop
 mul-task c = search needs
@@ -30,34 +33,38 @@ shared-slice-read-task c =
     omega (arith, s .2 .few, s .2 .room)
 
 cast-task : tie.Need-cast-task Inv-loop μ-loop
-cast-task c = omega (arith, c .before .before .before .before .before .before .before .pre .2 .low (c .before .before .loop .h) (c .before .loop-test .taken))
-
-sub-push : tie.Need-sub-push Inv-loop μ-loop
-sub-push c = omega (arith, c .before .before .before .before .before .loop .inv .1)
+cast-task c =
+    let l = c .before .before in
+    omega (arith, l .before .before .before .before .before .pre .2 .low (l .loop .h) (c .before .loop-test .taken))
 
 push-requires : tie.Need-push-requires Inv-loop μ-loop
 push-requires c κs =
-    let s = c .before .before .before .before .before .before .before .before .before .before .pre in
-    let l = c .before .before .before .before .before .loop in (
+    let t = c .before .before .before .before in
+    let l = t .before .loop in
+    let s = t .before .before .before .before .before .before .pre in (
       room-after (s .0) (l .inv .0) (omega (arith, s .2 .few, l .inv .1)) (omega (arith, l .inv .1)),
       s .1,
       omega (arith, s .2 .few, l .inv .1),
-      s .2 .low (l .h) (c .before .before .before .before .loop-test .taken),
+      s .2 .low (l .h) (t .loop-test .taken),
     )
 
 add-h : tie.Need-add-h Inv-loop μ-loop
 add-h c = search needs
 
 loop-less : tie.Need-loop-less Inv-loop μ-loop
-loop-less c = omega (arith, c .before .before .before .before .before .before .before .before .before .before .before .loop-test)
+loop-less c =
+    let p = c .before .before .before .before .before .before in
+    omega (arith, p .before .before .before .before .before .loop-test)
 
 loop-again : tie.Need-loop-again Inv-loop μ-loop
 loop-again c =
-    let l = c .before .before .before .before .before .before .before .before .before .before .before .before .loop in
-    let a = c .before .before .before .before .before .before .before .before .before .before .before .before .before .before .before .before .before .args in (
-      draws-is (omega (arith, l .inv .1)) (omega (arith, l .inv .1)) (λ p. pushes-more (a .top) (a .cells .now) (l .h) p (l .inv .1)) (l .inv .0 ▹ c .before .before .before .before .before .before .push .ensures),
+    let p = c .before .before .before .before .before .before in
+    let t = p .before .before .before .before .before in
+    let l = t .before .loop in
+    let a = t .before .before .before .before .before .before .args in (
+      draws-is (omega (arith, l .inv .1)) (omega (arith, l .inv .1)) (λ p. pushes-more (a .top) (a .cells .now) (l .h) p (l .inv .1)) (l .inv .0 ▹ p .push .ensures),
       omega arith,
-      omega (arith, l .inv .1, c .before .before .before .before .before .before .before .before .before .before .before .loop-test),
+      omega (arith, l .inv .1, t .loop-test),
     )
 
 same-length : tie.Need-same-length Inv-loop μ-loop
@@ -83,10 +90,10 @@ pushes-spec =
     Inv-loop
     μ-loop
     loop-holds
+    sub-below
     mul-task
     shared-slice-read-task
     cast-task
-    sub-push
     push-requires
     add-h
     loop-less

@@ -20,8 +20,9 @@ slice-aggregate-moving c = search needs
 
 moving-requires : tie.Need-moving-requires
 moving-requires c κs =
-    let s = c .before .before .before .before .before .before .before .before in
-    let n = if-other {A = ℕ} (s .args .bottom) (s .args .task) 0 1 (c .before .before .before .before .if1 .left) in
+    let t = c .before .before .before .before in
+    let s = t .before .before .before .before in
+    let n = if-other {A = ℕ} (s .args .bottom) (s .args .task) 0 1 (t .if1 .left) in
     (room-less (s .pre .0) (omega arith) (omega (arith, n)), omega (arith, s .pre .1))
 
 slice-aggregate-field : tie.Need-slice-aggregate-field
@@ -29,34 +30,40 @@ slice-aggregate-field c = search needs
 
 field-requires : tie.Need-field-requires
 field-requires c κs =
-    let s = c .before .before .before .before .before .before .before .before .before .before .before .before .before .before .before .before .before .pre in
-    (space-after (s .0 .space) (c .before .before .before .before .before .before .before .before .moving .ensures) (omega arith), s .2)
+    let m = c .before .before .before .before .before .before .before .before in
+    let s = m .before .before .before .before .before .before .before .before .before .pre in
+    (space-after (s .0 .space) (m .moving .ensures) (omega arith), s .2)
 
 slice-aggregate-field-line : tie.Need-slice-aggregate-field-line
 slice-aggregate-field-line c = search needs
 
 field-line-requires : tie.Need-field-line-requires
 field-line-requires c κs =
-    let s = c .before .before .before .before .before .before .before .before .before .before .before .before .before .before .before .before .before .before .before .before .before .before .pre in
-    (space-after (s .0 .space) (c .before .before .before .before .before .before .before .before .before .before .before .before .before .moving .ensures ▹ c .before .before .before .before .field .ensures _ _) (omega arith), s .3)
+    let f = c .before .before .before .before in
+    let m = f .before .before .before .before .before .before .before .before .before in
+    let s = m .before .before .before .before .before .before .before .before .before .pre in
+    (space-after (s .0 .space) (m .moving .ensures ▹ f .field .ensures _ _) (omega arith), s .3)
 
 same-length : tie.Need-same-length
-same-length c = (c .before .before .before .before .before .before .before .before .before .before .before .before .before .before .before .before .moving .ensures ▹ c .before .before .before .before .before .before .before .field .ensures _ _ ▹ c .before .before .field-line .ensures _ _) .size
+same-length c = search needs
 
 same-length-2 : tie.Need-same-length-2
-same-length-2 c = c .before .before .before .before .before .before .before .before .before .before .before .before .before .before .before .before .moving .ensures .lengths
+same-length-2 c = search needs
 
 same-length-3 : tie.Need-same-length-3
-same-length-3 c = c .before .before .before .before .before .before .before .before .before .before .before .before .before .before .before .before .moving .ensures .offsets
+same-length-3 c = search needs
 
 returns-2 : tie.Need-returns-2
 returns-2 c =
-    let s = c .before .before .before .before .before .before .before .before .before .before .before .before .before .before .before .before .before .before .before .before .before .before .before .before .before in
-    let a = s .args in
-    let d = c .before .before .before .before .before .before .before .before .before .before .before .before .before .before .before .before .before .before .before .before .before .if1 .left in
+    let l = c .before .before in
+    let f = l .before .before .before .before .before in
+    let m = f .before .before .before .before .before .before .before .before .before in
+    let t = m .before .before .before .before .before in
+    let a = t .before .before .before .before .args in
+    let d = t .if1 .left in
     let n = if-other {A = ℕ} (a .bottom) (a .task) 0 1 d in
     draws-is (omega arith) (omega (arith, n)) (λ p. task-moves (a .top) (a .task) (a .bottom) p d)
-    (c .before .before .before .before .before .before .before .before .before .before .before .before .before .before .before .before .moving .ensures ▹ c .before .before .before .before .before .before .before .field .ensures _ _ ▹ c .before .before .field-line .ensures _ _)
+    (m .moving .ensures ▹ f .field .ensures _ _ ▹ l .field-line .ensures _ _)
 
 pub task-moves-spec : {M : Type 1} → statement M
 task-moves-spec =

@@ -24,35 +24,47 @@ slice-aggregate-moving c = search needs
 
 moving-requires : tie.Need-moving-requires
 moving-requires c κs =
-    let s = c .before .before .before .before .before .before .before .before .before .before .before .before .before in
-    let n = if-other {A = ℕ} (s .args .stay) 1 0 2 (c .before .before .before .before .before .before .before .before .before .if1 .left) in
-    (room-after (s .pre .0) (c .before .before .before .before .before .before .field .ensures _ _) (omega arith) (omega (arith, n)), omega arith)
+    let f = c .before .before .before .before .before .before in
+    let t = f .before .before .before in
+    let s = t .before .before .before .before in
+    let n = if-other {A = ℕ} (s .args .stay) 1 0 2 (t .if1 .left) in
+    (room-after (s .pre .0) (f .field .ensures _ _) (omega arith) (omega (arith, n)), omega arith)
 
 slice-aggregate-moving-line : tie.Need-slice-aggregate-moving-line
 slice-aggregate-moving-line c = search needs
 
 moving-line-requires : tie.Need-moving-line-requires
 moving-line-requires c κs =
-    let s = c .before .before .before .before .before .before .before .before .before .before .before .before .before .before .before .before .before .before .before .before .before .before .before .before in
-    let n = if-other {A = ℕ} (s .args .stay) 1 0 2 (c .before .before .before .before .before .before .before .before .before .before .before .before .before .before .before .before .before .before .before .before .if1 .left) in
-    (room-after (s .pre .0) (c .before .before .before .before .before .before .before .before .before .before .before .before .before .before .before .before .before .field .ensures _ _ ▹ c .before .before .before .before .before .before .before .before .before .before .moving .ensures) (omega arith) (omega (arith, n)), omega (arith, s .pre .2))
+    let m = c .before .before .before .before .before .before .before .before .before .before in
+    let f = m .before .before .before .before .before .before .before in
+    let t = f .before .before .before in
+    let s = t .before .before .before .before in
+    let n = if-other {A = ℕ} (s .args .stay) 1 0 2 (t .if1 .left) in
+    (room-after (s .pre .0) (f .field .ensures _ _ ▹ m .moving .ensures) (omega arith) (omega (arith, n)), omega (arith, s .pre .2))
 
 same-length : tie.Need-same-length
-same-length c = (c .before .before .before .before .before .before .before .before .before .before .before .before .before .before .before .before .before .before .before .before .before .before .before .before .field .ensures _ _ ▹ c .before .before .before .before .before .before .before .before .before .before .before .before .before .before .before .before .before .moving .ensures ▹ c .before .before .before .before .before .before .moving-line .ensures) .size
+same-length c =
+    let l = c .before .before .before .before .before .before in
+    let m = l .before .before .before .before .before .before .before .before .before .before .before in
+    (m .before .before .before .before .before .before .before .field .ensures _ _ ▹ m .moving .ensures ▹ l .moving-line .ensures) .size
 
 same-length-2 : tie.Need-same-length-2
-same-length-2 c = (c .before .before .before .before .before .before .before .before .before .before .before .before .before .before .before .before .before .moving .ensures ▹ c .before .before .before .before .before .before .moving-line .ensures) .lengths
+same-length-2 c = search needs
 
 same-length-3 : tie.Need-same-length-3
-same-length-3 c = (c .before .before .before .before .before .before .before .before .before .before .before .before .before .before .before .before .before .moving .ensures ▹ c .before .before .before .before .before .before .moving-line .ensures) .offsets
+same-length-3 c = search needs
 
 returns-2 : tie.Need-returns-2
 returns-2 c =
-    let s = c .before .before .before .before .before .before .before .before .before .before .before .before .before .before .before .before .before .before .before .before .before .before .before .before .before .before .before .before .before .before .before in
-    let d = c .before .before .before .before .before .before .before .before .before .before .before .before .before .before .before .before .before .before .before .before .before .before .before .before .before .before .before .if1 .left in
-    let n = if-other {A = ℕ} (s .args .stay) 1 0 2 d in
-    draws-is (omega arith) (omega (arith, n)) (λ p. top-moves (s .args .top) (s .args .stay) p d)
-    (c .before .before .before .before .before .before .before .before .before .before .before .before .before .before .before .before .before .before .before .before .before .before .before .before .field .ensures _ _ ▹ c .before .before .before .before .before .before .before .before .before .before .before .before .before .before .before .before .before .moving .ensures ▹ c .before .before .before .before .before .before .moving-line .ensures)
+    let l = c .before .before .before .before .before .before in
+    let m = l .before .before .before .before .before .before .before .before .before .before .before in
+    let f = m .before .before .before .before .before .before .before in
+    let t = f .before .before .before in
+    let a = t .before .before .before .before .args in
+    let d = t .if1 .left in
+    let n = if-other {A = ℕ} (a .stay) 1 0 2 d in
+    draws-is (omega arith) (omega (arith, n)) (λ p. top-moves (a .top) (a .stay) p d)
+    (f .field .ensures _ _ ▹ m .moving .ensures ▹ l .moving-line .ensures)
 
 pub top-moves-spec : {M : Type 1} → statement M
 top-moves-spec =

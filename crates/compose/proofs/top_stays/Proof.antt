@@ -24,26 +24,30 @@ slice-aggregate-moving-line c = search needs
 
 moving-line-requires : tie.Need-moving-line-requires
 moving-line-requires c κs =
-    let s = c .before .before .before .before .before .before .before .before .before .before .before .before .before in
-    let n = if-same {A = ℕ} (s .args .stay) 1 1 0 (c .before .before .before .before .before .before .before .before .before .if1 .left) in
-    (room-after (s .pre .0) (c .before .before .before .before .before .before .field .ensures _ _) (omega arith) (omega (arith, n)), omega arith)
+    let f = c .before .before .before .before .before .before in
+    let t = f .before .before .before in
+    let s = t .before .before .before .before in
+    let n = if-same {A = ℕ} (s .args .stay) 1 1 0 (t .if1 .left) in
+    (room-after (s .pre .0) (f .field .ensures _ _) (omega arith) (omega (arith, n)), omega arith)
 
 same-length : tie.Need-same-length
-same-length c = (c .before .before .before .before .before .before .before .before .before .before .before .before .before .field .ensures _ _ ▹ c .before .before .before .before .before .before .moving-line .ensures) .size
+same-length c = search needs
 
 same-length-2 : tie.Need-same-length-2
-same-length-2 c = c .before .before .before .before .before .before .moving-line .ensures .lengths
+same-length-2 c = search needs
 
 same-length-3 : tie.Need-same-length-3
-same-length-3 c = c .before .before .before .before .before .before .moving-line .ensures .offsets
+same-length-3 c = search needs
 
 returns-2 : tie.Need-returns-2
 returns-2 c =
-    let s = c .before .before .before .before .before .before .before .before .before .before .before .before .before .before .before .before .before .before .before .before in
-    let e = c .before .before .before .before .before .before .before .before .before .before .before .before .before .before .before .before .if1 .left in
-    let n = if-same {A = ℕ} (s .args .stay) 1 1 0 e in
-    draws-is (omega arith) (omega (arith, n)) (λ p. top-stays (s .args .top) (s .args .stay) p e)
-    (c .before .before .before .before .before .before .before .before .before .before .before .before .before .field .ensures _ _ ▹ c .before .before .before .before .before .before .moving-line .ensures)
+    let m = c .before .before .before .before .before .before in
+    let f = m .before .before .before .before .before .before .before in
+    let t = f .before .before .before in
+    let a = t .before .before .before .before .args in
+    let e = t .if1 .left in
+    let n = if-same {A = ℕ} (a .stay) 1 1 0 e in
+    draws-is (omega arith) (omega (arith, n)) (λ p. top-stays (a .top) (a .stay) p e) (f .field .ensures _ _ ▹ m .moving-line .ensures)
 
 pub top-stays-spec : {M : Type 1} → statement M
 top-stays-spec =

@@ -1,8 +1,8 @@
 use Prim.Native.Nat.{_-_}
 use lib.ListN.{length}
 use borrow.Author.Needs.{needs}
-use Rattle.vectors.proofs.run_all.Statement.{statement}
-use Rattle.vectors.proofs.run_all.Tie as tie
+use Rattle.examples.proofs.run_all.Statement.{statement}
+use Rattle.examples.proofs.run_all.Tie as tie
 
 abbrev Inv-loop : tie.InvT-loop
 Inv-loop all at₀ at = Unit {0}

@@ -1,0 +1,69 @@
+/* One job on one input, for counting: read standard input, do the job that the argument names, or none, and end. */
+#ifndef BENCH_JOBS_H
+#define BENCH_JOBS_H
+
+#include "plain/programs.h"
+
+int strcmp(const char *one, const char *other);
+
+enum { INPUT_ROOM = 140000, STEPS_ROOM = 200000, TEXT_ROOM = 4096 };
+
+/* The table's problem has 36,082 sections in form 0 and 37,520 in form 1: the head, a fact, top, a position, the middle,
+ * operators of actions and methods. */
+static const uint64_t some_sections[] = {0, 1, 65, 66, 130, 131, 6000, 12930, 12931, 20000, 28000, 36000};
+
+struct input {
+    uint64_t bound, form;
+    const uint8_t *table, *plan;
+    size_t table_length, plan_length;
+};
+
+/* What each side does; the text and the steps are written where they are told. */
+struct jobs {
+    uint64_t (*sections)(const struct input *in);
+    uint64_t (*section)(const struct input *in, uint64_t index, uint8_t *text, size_t room);
+    uint64_t (*check)(const struct input *in);
+    uint64_t (*expand)(const struct input *in, uint8_t *steps, size_t room);
+    uint64_t (*least)(const struct input *in);
+};
+
+static uint64_t do_job(const struct jobs *jobs, const struct input *in, const char *job)
+{
+    static uint8_t steps[STEPS_ROOM], text[TEXT_ROOM];
+    uint64_t sum = 0;
+    if (!strcmp(job, "sections"))
+        return jobs->sections(in);
+    if (!strcmp(job, "section"))
+        for (unsigned k = 0; k < sizeof some_sections / sizeof *some_sections; k++)
+            sum += jobs->section(in, some_sections[k], text, sizeof text);
+    if (!strcmp(job, "check"))
+        return jobs->check(in);
+    if (!strcmp(job, "expand"))
+        return jobs->expand(in, steps, sizeof steps);
+    if (!strcmp(job, "least"))
+        return jobs->least(in);
+    return sum;
+}
+
+/* The input is the emitting program's, or the checking program's where the second argument says so. The result is
+ * printed, so that both sides can be seen to have done the same; the count is taken without that. */
+static int run_job(const struct jobs *jobs, int count, char **arguments)
+{
+    static uint8_t bytes[INPUT_ROOM];
+    size_t length = read_input(bytes, sizeof bytes), header = 2;
+    if (count < 3 || length < 4)
+        return 1;
+    struct input in = {bytes[0], bytes[1], bytes + header, NULL, length - header, 0};
+    if (!strcmp(arguments[2], "plan")) {
+        in.table_length = bytes[2] + 256u * bytes[3];
+        in.table = bytes + 4;
+        in.plan = in.table + in.table_length;
+        in.plan_length = length - 4 - in.table_length;
+    }
+    uint64_t result = do_job(jobs, &in, arguments[1]);
+    if (count > 3)
+        printf("%lu\n", (unsigned long)result);
+    return 0;
+}
+
+#endif

@@ -1,0 +1,150 @@
+/* The night of March, from the console's side: a table of switch procedures, the whole plan, the half plan that was taken for
+ * a whole one, and damaged tables. The rule is in judge: nothing goes to the switches but an accepted plan's steps. */
+#include "ildorzhen.h"
+#include <stdio.h>
+
+/* The library and the planner know numbers only; the names stand here, in the table's order. */
+static const char *const FACTS[] = {"policy on the cards", "new policy loaded", "cards verified"};
+static const char *const TASKS[] = {"take the policy off the cards", "load the new policy", "put it on the cards",
+                                    "verify the cards", "replace the policy", "bring it back"};
+static const char *const METHODS[] = {"replace the policy: take it off, bring it back, verify",
+                                      "bring it back: load it, put it on", "bring it back: it is loaded, put it on"};
+
+/* A fact set is one number: 1 for fact 0, 2 for fact 1, 4 for fact 2, added up. Numbers from 128 on take more than one byte,
+ * the lowest seven bits first, with the top bit set on all but the last: 200 is 72 + 1 * 128, so 128 + 72 and then 1. */
+static const uint8_t TABLE[] = {
+    3,               /* facts */
+    4,               /* actions: tasks 0 to 3 */
+    2,               /* abstract tasks: 4 and 5 */
+    3,               /* methods */
+    4,               /* the starting task: replace the policy */
+    1,               /* start facts: policy on */
+    5,               /* goal facts: policy on, verified */
+    1, 0, 5, 5,      /* a0, take off: needs policy on; adds nothing; deletes policy on and verified; costs 5 seconds */
+    0, 2, 0, 200, 1, /* a1, load: needs nothing; adds loaded; deletes nothing; costs 200 seconds, a number of two bytes */
+    2, 1, 0, 5,      /* a2, put on: needs loaded; adds policy on; deletes nothing; costs 5 seconds */
+    1, 4, 0, 30,     /* a3, verify: needs policy on; adds verified; deletes nothing; costs 30 seconds */
+    4, 3, 0, 5, 3,   /* m0: for replace the policy; 3 subtasks: take off, bring it back, verify */
+    5, 2, 1, 2,      /* m1: for bring it back; 2 subtasks: load, put on */
+    5, 1, 2,         /* m2: for bring it back; 1 subtask: put on */
+};
+
+/* By refusal number: what its place is, and what the technician is told. Row 0 is for numbers newer than this program. */
+static const struct { const char *place, *sentence; } REFUSALS[] = {
+    {"at place", "a refusal that this program does not know"},
+    {"at place", "the bound is not 1 to 64"},
+    {"at place", "the form is not 0 or 1"},
+    {"at place", "the table is longer than 32,768 bytes"},
+    {"at place", "the plan is longer than 65,536 bytes"},
+    {"at table byte", "the table ends before this number or inside it"},
+    {"at table byte", "this number is not in its shortest form, or over 64 bits"},
+    {"at table byte", "this count or cost is beyond its range"},
+    {"at table byte", "this fact or task is not there, or the task is of the wrong kind"},
+    {"at table byte", "the table has ended, and bytes follow"},
+    {"at place", "there is no such section"},
+    {"at line", "this is not a plan's line, or its line feed is missing"},
+    {"at line", "this operator does not exist, or not at this position"},
+    {"at line", "the task of this operator is not on top, or a fact that it needs does not hold"},
+    {"after line", "the plan stops with work left on the stack"},
+    {"after line", "the plan ends and a goal fact is missing"},
+    {"with bytes to write", "there is too little room for the steps"},
+};
+
+typedef unsigned long long wide; /* for %llu: what uint64_t is differs from system to system */
+enum { ROOM = 64 };              /* bytes for a plan's steps, two each */
+
+static void tell_refusal(const char *name, uint64_t refusal, uint64_t place)
+{
+    uint64_t row = refusal < sizeof REFUSALS / sizeof REFUSALS[0] ? refusal : 0;
+    printf("%s: refused %llu %s %llu: %s; nothing was sent to the switches\n", name, (wide)refusal, REFUSALS[row].place,
+           (wide)place, REFUSALS[row].sentence);
+}
+
+/* The k-th number of TABLE, from 0, if it is below 128. A byte below 128 is the last of its number. */
+static unsigned number(uint64_t k)
+{
+    const uint8_t *at = TABLE;
+    for (; k > 0; at++)
+        if (*at < 128)
+            k--;
+    return *at;
+}
+
+/* Seven numbers come first, then four for each action, then the methods: head, count of subtasks, subtasks. */
+static unsigned subtasks(unsigned method)
+{
+    uint64_t head = 7 + 4 * number(1);
+    for (; method > 0; method--)
+        head += 2 + number(head + 1);
+    return number(head + 1);
+}
+
+/* A method's subtasks are the next steps, one level deeper, as many as the table says; left has, for each level that is open,
+ * how many are still to come. A step opens one level at most: there are never more open than there were steps. */
+static void show_steps(const uint8_t *steps, uint64_t length)
+{
+    unsigned left[ROOM / 2 + 1] = {1}, depth = 0;
+    for (uint64_t k = 0; k < length; k += 2) {
+        unsigned step = steps[k] + 256u * steps[k + 1];
+        printf("  %*s%s\n", (int)(2 * depth), "", step < 1024 ? TASKS[step] : METHODS[step - 1024]);
+        left[depth]--;
+        if (step >= 1024)
+            left[++depth] = subtasks(step - 1024);
+        while (depth > 0 && left[depth] == 0)
+            depth--;
+    }
+}
+
+/* Expanding refuses what the check refuses, in the same order, and last of all 16: more steps than there is room for. */
+static void judge(const char *name, uint64_t bound, uint64_t form, const char *text, size_t length)
+{
+    const uint8_t *plan = (const uint8_t *)text;
+    uint8_t steps[ROOM] = {0};
+    uint64_t refusal = ildorzhen_expand_number(bound, form, TABLE, sizeof TABLE, plan, length, steps, ROOM);
+    if (refusal != 0) {
+        tell_refusal(name, refusal, ildorzhen_expand_place(bound, form, TABLE, sizeof TABLE, plan, length, steps, ROOM));
+        return;
+    }
+    printf("%s: accepted, %llu operators, %llu steps, %llu seconds\n", name,
+           (wide)ildorzhen_check_operators(bound, form, TABLE, sizeof TABLE, plan, length),
+           (wide)ildorzhen_check_steps(bound, form, TABLE, sizeof TABLE, plan, length),
+           (wide)ildorzhen_check_cost(bound, form, TABLE, sizeof TABLE, plan, length));
+    show_steps(steps, ildorzhen_expand_write(bound, form, TABLE, sizeof TABLE, plan, length, steps, ROOM));
+}
+
+/* The least bound, for the planner and the check; 0 where the table is refused, or no bound lets its stack be emptied. */
+static uint64_t read_table(const char *name, const uint8_t *table, size_t length)
+{
+    uint64_t refusal = ildorzhen_least_number(table, length), bound = ildorzhen_least_bound(table, length);
+    if (refusal != 0)
+        tell_refusal(name, refusal, ildorzhen_least_place(table, length));
+    else
+        printf("%s: accepted, least bound %llu, %llu sections for the planner\n", name, (wide)bound,
+               (wide)ildorzhen_sections_count(bound, 0, table, length));
+    return bound;
+}
+
+int main(void)
+{
+    static const char whole[] = "(m0 1)\n(a0 3)\n(m1 2)\n(a1 3)\n(a2 2)\n(a3 1)\n; cost = 240 (general cost)\n";
+    static const char shorter[] = "(m0 1)\n(m1 2)\n(a3 1)\n", half[] = "(m0 1)\n(a0 3)\n";
+    static const char unloaded[] = "(m0 1)\n(a0 3)\n(m2 2)\n(a2 2)\n(a3 1)\n";
+    uint64_t bound = read_table("table", TABLE, sizeof TABLE);
+    if (bound == 0)
+        return 1;
+    printf("  task: %s\n", TASKS[number(4)]);
+    for (unsigned k = 0; k < number(0); k++)
+        printf("  fact: %s%s%s\n", FACTS[k], (number(5) >> k) & 1 ? ", given" : "", (number(6) >> k) & 1 ? ", wanted" : "");
+    judge("whole plan", bound, 0, whole, sizeof whole - 1); /* a plan is without C's closing zero */
+    judge("the same in form 1", bound, 1, shorter, sizeof shorter - 1);
+    judge("half plan of March", bound, 0, half, sizeof half - 1);
+    judge("plan that loads nothing", bound, 0, unloaded, sizeof unloaded - 1);
+    judge("no plan", bound, 0, NULL, 0);
+    /* Here the starting task becomes an action. Not every changed byte is refused: with another cost it is another good table. */
+    uint8_t changed[sizeof TABLE];
+    for (size_t k = 0; k < sizeof TABLE; k++)
+        changed[k] = k == 4 ? 3 : TABLE[k];
+    read_table("table with byte 4 changed", changed, sizeof changed);
+    read_table("table without its last byte", TABLE, sizeof TABLE - 1);
+    return 0;
+}
