@@ -33,7 +33,7 @@
  *   it refuses it writes none. All other slices are only read. A slice of length 0 may have a null pointer; any other has to
  *   point to as many bytes as it says, and one that is written must not overlap another slice of the call.
  *   No call keeps a pointer, allocates, or remembers anything from call to call, so threads may call at the same time. A call
- *   takes less than 100 KB of the stack.
+ *   takes less than 128 KB of the stack.
  *
  * The header is C99 and later, and C++. */
 #ifndef ILDORZHEN_H
