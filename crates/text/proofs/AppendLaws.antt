@@ -1,8 +1,7 @@
 -- Laws of what writers leave: two, one after the other, write one text.
 use mathlib.Core.Path.{_≡_, refl, sym, ap, _∙_}
 use mathlib.Core.List.{List, [], _∷_, _++_, append-nil, append-assoc}
-use Prim.Native.Nat.{ℕ, suc, _+_, _-_, _≤_, _<_}
-use native.Mathlib.Nat.{add-suc, add-zero, suc-add}
+use Prim.Native.Nat.{ℕ, _+_, _-_, _≤_, _<_}
 use native.Mathlib.Numerals.{add-one}
 use native.Mathlib.Omega.{arith}
 use lib.ListN.{length, take, drop, set, getD, length-append, length-set}
@@ -18,6 +17,7 @@ use lib.Seq.{
   take-suc-set,
   take-take,
 }
+use Rattle.laws.proofs.StepLaws.{sets-append}
 use Rattle.text.specs.Appends.{Appends}
 
 -- Nothing.
@@ -83,10 +83,6 @@ drop-take l a b c h p =
     ∙ take-take b (c - a) (drop a l) (omega arith)
 
 -- ---- a copy, byte by byte
-
-sets-append : (x y l : List ℕ) (i : ℕ) → sets (sets l i x) (i + length x) y ≡ sets l i (x ++ y)
-sets-append [] y l i = rw add-zero
-sets-append (a ∷ x) y l i = rw (add-suc, ← suc-add) (sets-append x y (set l i a) (suc i))
 
 -- One byte more of s.
 pub sets-more : (l s : List ℕ) (at i : ℕ) → i < length s
