@@ -4,7 +4,7 @@ use mathlib.Core.Bool.{Bool, true, false, cond}
 use mathlib.Core.List.{List, [], _∷_, _++_, append-assoc}
 use Prim.Native.Nat.{ℕ}
 use Rattle.rules.specs.Facts.{has}
-use Rattle.rules.specs.Texts.{bytes, digits, digitsF, line}
+use Rattle.basics.specs.Texts.{bytes, digits, digitsF, line}
 use Rattle.changes.specs.Changes.{before, after, changeLine, changePart}
 
 words : (x : List ℕ) (n d : Bool) → line (x ∷ cond n (bytes "0") (bytes "-1") ∷ digits (cond d 1 0) ∷ []) ≡ x ++ before n ++ after d

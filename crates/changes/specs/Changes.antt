@@ -4,7 +4,7 @@ use mathlib.Core.Bool.{Bool, cond}
 use mathlib.Core.List.{List, [], map}
 use lib.Dec.{eqb}
 use Rattle.rules.specs.Facts.{has, membersOf}
-use Rattle.rules.specs.Texts.{bytes}
+use Rattle.basics.specs.Texts.{bytes}
 use Rattle.rules.specs.Sections.{effectLine}
 
 -- The value before and the value after, as a line has them.

@@ -6,7 +6,7 @@ ghost use lib.Bits.{bitOr};
 ghost use lib.Count.{ones};
 ghost use lib.ListN.{length};
 ghost use Rattle.rules.specs.Facts.{without};
-ghost use Rattle.rules.specs.Lists.{concat};
+ghost use Rattle.basics.specs.Lists.{concat};
 ghost use Rattle.text.specs.Appends.{Appends};
 ghost use Rattle.changes.specs.Changes.{before, after, changePart, changeLines, prevailCount, effectCount};
 

@@ -4,7 +4,7 @@ use mathlib.Core.Path.{_≡_, refl, ap, _∙_}
 use mathlib.Core.List.{List, [], _++_, append-assoc, append-nil}
 use native.Mathlib.Omega.{arith}
 use lib.ListN.{length}
-use Rattle.rules.specs.Texts.{digits}
+use Rattle.basics.specs.Texts.{digits}
 use Rattle.text.specs.Appends.{Appends}
 use Rattle.template.specs.declared.Pen.{Pen}
 use Rattle.template.specs.Templates.{Drawn}

@@ -20,10 +20,10 @@ use Rattle.rows.proofs.RowLaws.{stay-is}
 use Rattle.compose.specs.RowTexts.{rowLines, Fit}
 use Rattle.compose.proofs.LineLaws.{stack-at}
 
-pub row-lines : (f : ℕ) (t : Table) (b : ℕ) (x : Step) (ops cells : List ℕ) (i : ℕ) → rowAt ops cells 0 ≡ rowOf f t b x
+pub row-lines : (b f : ℕ) (t : Table) (x : Step) (ops cells : List ℕ) (i : ℕ) → rowAt ops cells 0 ≡ rowOf b f t x
     → rowLines (factCount t) (taskCount t) (nameOf x) (rowAt ops cells 0) i ≡ operatorText f t (record { what = x; at = i })
 unfolding operatorText operatorLines
-row-lines f t b x ops cells i e = ap (λ (r : Row). rowLines (factCount t) (taskCount t) (nameOf x) r i) e
+row-lines b f t x ops cells i e = ap (λ (r : Row). rowLines (factCount t) (taskCount t) (nameOf x) r i) e
 
 -- The task of a step and those that it leaves are tasks of the table.
 module _ (f : ℕ) (t : Table) (v : Valid t) (i : ℕ) (l : i < actionCount t + methodCount t) where
@@ -42,12 +42,12 @@ module _ (f : ℕ) (t : Table) (v : Valid t) (i : ℕ) (l : i < actionCount t + 
       let w : p + m < length (method t k .subs) = omega (arith, u, length-drop p (method t k .subs)) in
       rw (getD-drop p (method t k .subs) m 0) (omega (arith, v .head .tasks, v .head .actions, v .head .abstracts, v .method k h .subs (p + m) w)))
 
-pub row-fit : (f : ℕ) (t : Table) (b i k : ℕ) (ops cells : List ℕ) → Valid t → i < actionCount t + methodCount t → k < 1000
-    → rowAt ops cells 0 ≡ rowOf f t b (stepAt t i) → 4 ≤ length ops → 12 ≤ length cells → Fit (factCount t) (taskCount t) k ops cells
-row-fit f t b i k ops cells v l h e w c =
+pub row-fit : (b f : ℕ) (t : Table) (i k : ℕ) (ops cells : List ℕ) → Valid t → i < actionCount t + methodCount t → k < 1000
+    → rowAt ops cells 0 ≡ rowOf b f t (stepAt t i) → 4 ≤ length ops → 12 ≤ length cells → Fit (factCount t) (taskCount t) k ops cells
+row-fit b f t i k ops cells v l h e w c =
     let low = joined-low t v f i in
     let n : ℕ = getD cells 9 0 in
-    let stay : n ≡ length (leaves f t (stepAt t i)) = stay-is ops cells 0 (rowOf f t b (stepAt t i)) e in
+    let stay : n ≡ length (leaves f t (stepAt t i)) = stay-is ops cells 0 (rowOf b f t (stepAt t i)) e in
     let rest : stackOf cells n ≡ leaves f t (stepAt t i) = ap (λ (r : Row). r .rest) e in
     record {
       facts = v .head .facts;

@@ -10,9 +10,9 @@ use lib.Count.{ones}
 use lib.Dec.{eqb}
 use lib.ListN.{length, getD, length-append, length-map}
 use borrow.Author.Tests.{eq-eqb, ne-eqb}
-use Rattle.rules.specs.Lists.{rows, concat}
+use Rattle.basics.specs.Lists.{rows, concat}
 use Rattle.rules.specs.Facts.{Join, membersOf}
-use Rattle.rules.specs.Texts.{bytes, digits, line}
+use Rattle.basics.specs.Texts.{bytes, digits, line}
 use Rattle.rules.specs.Sections.{counted, valueLine, effectLine, factLine, kept, altered, topNext, bottomNext, pushLines, prevails, effects, operatorLines}
 use Rattle.laws.proofs.JoinSizes.{without-lt}
 use Rattle.laws.proofs.ListLaws.{rows-length}

@@ -9,8 +9,8 @@ use lib.Count.{ones}
 use lib.Dec.{eqb}
 use lib.ListN.{getD}
 use borrow.Author.Tests.{eq-eqb, ne-eqb}
-use Rattle.rules.specs.Lists.{upto, concat}
-use Rattle.rules.specs.Texts.{bytes, digits, line}
+use Rattle.basics.specs.Lists.{upto, concat}
+use Rattle.basics.specs.Texts.{bytes, digits, line}
 use Rattle.rules.specs.Sections.{valueLine, effectLine}
 use Rattle.changes.specs.Changes.{changeLines, prevailCount, effectCount}
 use Rattle.compose.specs.Pieces.{

@@ -6,9 +6,9 @@ use mathlib.Core.List.{List, [], _∷_, _++_, map}
 use lib.Count.{ones}
 use lib.Dec.{eqb}
 use lib.ListN.{length, getD}
-use Rattle.rules.specs.Lists.{upto, concat}
+use Rattle.basics.specs.Lists.{upto, concat}
 use Rattle.rules.specs.Facts.{membersOf}
-use Rattle.rules.specs.Texts.{bytes, digits, line}
+use Rattle.basics.specs.Texts.{bytes, digits, line}
 use Rattle.rules.specs.Sections.{valueLine, effectLine}
 use Rattle.changes.specs.Changes.{changeLines, prevailCount, effectCount}
 

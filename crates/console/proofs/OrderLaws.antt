@@ -7,7 +7,7 @@ use native.Mathlib.Omega.{arith}
 use borrow.Author.Tests.{leb-true}
 use lib.Dec.{leb}
 use lib.ListN.{length}
-use Rattle.rules.specs.Answers.{Answer, refusal, check}
+use Rattle.basics.specs.Answers.{Answer, refusal, check}
 use Rattle.rules.specs.Refusals.{boundFormed, tableFits}
 use Rattle.console.specs.Order.{earlyNumber}
 

@@ -11,8 +11,8 @@ use borrow.Rule.Slice.PartMut.{putMid}
 use lib.Dec.{leb}
 use lib.ListN.{length, take, drop, length-drop, take-append-drop, drop-of-length-le}
 use lib.Seq.{sets, sets-eq, take-all, drop-drop}
-use Rattle.rules.specs.Answers.{Answer, answer, refusal, check, after, lengthOf}
-use Rattle.rules.specs.Readings.{got, bad}
+use Rattle.basics.specs.Answers.{Answer, answer, refusal, check, after, lengthOf}
+use Rattle.basics.specs.Readings.{got, bad}
 use Rattle.rules.specs.Tables.{Table, decode}
 use Rattle.rules.specs.Sections.{sectionsOf}
 use Rattle.rules.specs.Refusals.{chosen, roomFor, readOf, oneSection, written}
@@ -34,7 +34,7 @@ module _ (b f : ℕ) (s : List ℕ) (k size at : ℕ) where
     unfolding oneSection
     one-bad e = early-passes b f s _ early ∙ table-bad s _ e
 
-    pub one-got : {t : Table} {end : ℕ} → decode s ≡ got t end → oneSection b f s k size at ≡ after (chosen (sectionsOf f t b) k) (roomFor size at)
+    pub one-got : {t : Table} {end : ℕ} → decode s ≡ got t end → oneSection b f s k size at ≡ after (chosen (sectionsOf b f t) k) (roomFor size at)
     unfolding oneSection
     one-got e = early-passes b f s _ early ∙ table-got s _ e
 
@@ -162,4 +162,4 @@ module _ (old : List ℕ) (at : ℕ) where
       kept-check (leb 1 b && leb b 64) 1 0 _
       (kept-check (leb f 1) 2 0 _
       (kept-check (leb (length s) 32768) 3 0 _
-      (kept-after (readOf (decode s)) _ (λ t. kept-after (chosen (sectionsOf f t b) k) (roomFor (length old) at) (kept-room l)))))
+      (kept-after (readOf (decode s)) _ (λ t. kept-after (chosen (sectionsOf b f t) k) (roomFor (length old) at) (kept-room l)))))

@@ -8,7 +8,7 @@ use borrow.Author.Tests.{le-leb, lt-leb}
 use lib.Dec.{leb}
 use lib.ListN.{length, take, drop}
 use lib.Seq.{sets, sets-eq}
-use Rattle.rules.specs.Answers.{Answer, answer, refusal, numberOf, placeOf, valueOf, itself, lengthOf}
+use Rattle.basics.specs.Answers.{Answer, answer, refusal, numberOf, placeOf, valueOf, itself, lengthOf}
 use Rattle.rules.specs.Operators.{expandAll}
 use Rattle.rules.specs.Plans.{linesOf, opersOf}
 use Rattle.rules.specs.Checks.{accepted, checkLines, stepBytes}
@@ -40,7 +40,7 @@ module _ (b f : ℕ) (s plan words cells : List ℕ) (c o k : ℕ) (e : checkPla
   pub plan-small : length plan ≤ 65536
   plan-small = accepted-given b f s plan c o k e .3
 
-  pub lines-accepted : numberOf (checkLines f (tableOf words) b (linesOf plan)) ≡ 0
+  pub lines-accepted : numberOf (checkLines b f (tableOf words) (linesOf plan)) ≡ 0
   lines-accepted = ap numberOf (lines-pass given plan plan-small c o k e)
 
   pub bytes-long : length (stepBytes (expandAll f (tableOf words) (opersOf (linesOf plan)))) ≡ 2 * k

@@ -4,7 +4,7 @@ use mathlib.Core.Path.{_≡_}
 use mathlib.Core.List.{List}
 use Rattle.rules.specs.declared.Verdict.{Verdict}
 use Rattle.rules.specs.declared.Verdict.the-variants.{Accepted, Refused}
-use Rattle.rules.specs.Readings.{got}
+use Rattle.basics.specs.Readings.{got}
 use Rattle.rules.specs.Tables.{decode}
 use Rattle.words.specs.Words.{tableOf, Held}
 use Rattle.plan.specs.Ready.{StepsHeld}

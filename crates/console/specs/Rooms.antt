@@ -1,7 +1,7 @@
 -- Room for a text, by its length alone.
 use Prim.Native.Nat.{ℕ, _+_}
 use lib.Dec.{leb}
-use Rattle.rules.specs.Answers.{Answer, answer, refusal, check}
+use Rattle.basics.specs.Answers.{Answer, answer, refusal, check}
 
 -- So many bytes, to be written from the place `at` on of a text of `size` bytes.
 unfoldable pub roomAt : ℕ → ℕ → Answer ℕ → Answer ℕ

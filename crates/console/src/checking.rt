@@ -1,6 +1,6 @@
 // Check a plan.
 ghost use mathlib.Core.Path.{_≡_};
-ghost use Rattle.rules.specs.Answers.{numberOf, placeOf, valueOf};
+ghost use Rattle.basics.specs.Answers.{numberOf, placeOf, valueOf};
 ghost use Rattle.rules.specs.Checks.{costOf, operatorsIn, stepsIn};
 ghost use Rattle.rules.specs.Refusals.{checkPlan};
 

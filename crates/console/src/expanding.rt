@@ -1,12 +1,12 @@
 // Expand a plan into steps.
 ghost use mathlib.Core.Path.{_≡_};
 ghost use lib.ListN.{length};
-ghost use Rattle.rules.specs.Answers.{numberOf, placeOf, valueOf, replyOf, lengthOf};
+ghost use Rattle.basics.specs.Answers.{numberOf, placeOf, valueOf, replyOf, lengthOf};
 ghost use Rattle.rules.specs.Checks.{verdictOf};
 ghost use Rattle.rules.specs.Refusals.{expandPlan, written};
 ghost use Rattle.theorems.specs.Measures.{roomOf};
 ghost use Rattle.plan.specs.Ready.{Few};
-use rules::Reply;
+use basics::Reply;
 use rules::Verdict;
 
 // Two bytes a step, where there is room for them.
@@ -48,7 +48,7 @@ fn write(bound: u64, form: u64, table: &[u8], plan: &[u8], steps: &mut [u8]) -> 
             if (steps.len() as u64) < bytes {
                 return Reply::Refused(16, bytes);
             }
-            plan::expand::expand(&words, form, bound, &cells, plan, steps);
+            plan::expand::expand(&words, bound, form, &cells, plan, steps);
             Reply::Value(bytes)
         }
     }

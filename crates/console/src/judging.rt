@@ -7,7 +7,7 @@ ghost use Rattle.rules.specs.Refusals.{checkPlan};
 ghost use Rattle.plan.specs.Ready.{Few};
 ghost use Rattle.console.specs.Judged.{Judged};
 use rules::Verdict;
-use table::Step;
+use table::Onward;
 
 // In the order of the refusals: bound, form, table's length, plan's length, table, plan.
 pub fn judge(
@@ -31,10 +31,10 @@ pub fn judge(
         return Verdict::Refused(4, 0);
     }
     match table::read_table(table, words) {
-        Step::Bad(why, at) => Verdict::Refused(why, at as u64),
-        Step::Next(_) => {
-            rows::prepare(words, form, bound, ops, cells);
-            plan::check::check(words, form, bound, ops, cells, plan)
+        Onward::Bad(why, at) => Verdict::Refused(why, at as u64),
+        Onward::To(_) => {
+            rows::prepare(words, bound, form, ops, cells);
+            plan::check::check(words, bound, form, ops, cells, plan)
         }
     }
 }

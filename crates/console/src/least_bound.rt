@@ -1,9 +1,9 @@
 // The least bound of a table.
 ghost use mathlib.Core.Path.{_≡_};
-ghost use Rattle.rules.specs.Answers.{numberOf, placeOf, valueOf, replyOf, itself};
+ghost use Rattle.basics.specs.Answers.{numberOf, placeOf, valueOf, replyOf, itself};
 ghost use Rattle.rules.specs.Refusals.{findLeast};
-use rules::Reply;
-use table::Step;
+use basics::Reply;
+use table::Onward;
 
 fn find(table: &[u8]) -> Reply
     ensures { λ r. ⌜ replyOf r ≡ findLeast (now (table .entry)) ⌝ }
@@ -13,8 +13,8 @@ fn find(table: &[u8]) -> Reply
     }
     let mut words = [0u64; 6147];
     match table::read_table(table, &mut words) {
-        Step::Bad(why, at) => Reply::Refused(why, at as u64),
-        Step::Next(_) => Reply::Value(least::least(&words)),
+        Onward::Bad(why, at) => Reply::Refused(why, at as u64),
+        Onward::To(_) => Reply::Value(least::least(&words)),
     }
 }
 

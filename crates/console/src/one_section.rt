@@ -2,13 +2,13 @@
 ghost use mathlib.Core.Path.{_≡_};
 ghost use Prim.Native.Nat.{_≤_};
 ghost use lib.ListN.{length};
-ghost use Rattle.rules.specs.Answers.{numberOf, placeOf, valueOf, replyOf, after, lengthOf};
+ghost use Rattle.basics.specs.Answers.{numberOf, placeOf, valueOf, replyOf, after, lengthOf};
 ghost use Rattle.rules.specs.Sections.{sectionsOf};
 ghost use Rattle.rules.specs.Refusals.{chosen, roomFor, oneSection, written};
 ghost use Rattle.words.specs.Words.{tableOf, Held};
 ghost use Rattle.console.specs.Rooms.{roomAt};
-use rules::Reply;
-use table::Step;
+use basics::Reply;
+use table::Onward;
 
 // A section of so many bytes where there is room for it from the place on.
 fn room(reply: Reply, size: u64, at: u64) -> Reply
@@ -38,23 +38,23 @@ fn measure(bound: u64, form: u64, table: &[u8], index: u64, size: usize, at: u64
     }
     let mut words = [0u64; 6147];
     match table::read_table(table, &mut words) {
-        Step::Bad(why, place) => Reply::Refused(why, place as u64),
-        Step::Next(_) => {
+        Onward::Bad(why, place) => Reply::Refused(why, place as u64),
+        Onward::To(_) => {
             let mut space = [0u8; 4096];
-            let reply = section::put_section(&words, form, bound, index, &mut space);
+            let reply = section::put_section(&words, bound, form, index, &mut space);
             room(reply, size as u64, at)
         }
     }
 }
 
 // The section at the start of the part that is lent, where there is room for it; its length.
-fn put(words: &[u64], form: u64, bound: u64, index: u64, part: &mut [u8]) -> Reply
+fn put(words: &[u64], bound: u64, form: u64, index: u64, part: &mut [u8]) -> Reply
     requires { ⌜ Held (now words) × (1 ≤ bound) × (bound ≤ 64) ⌝ }
-    ensures { λ r. ⌜ replyOf r ≡ lengthOf (after (chosen (sectionsOf form (tableOf (now (words .entry))) bound) index) (roomFor (length (now (part .entry))) 0)) ⌝ }
-    ensures { λ _. ⌜ now (part .exit) ≡ written (now (part .entry)) 0 (after (chosen (sectionsOf form (tableOf (now (words .entry))) bound) index) (roomFor (length (now (part .entry))) 0)) ⌝ }
+    ensures { λ r. ⌜ replyOf r ≡ lengthOf (after (chosen (sectionsOf bound form (tableOf (now (words .entry)))) index) (roomFor (length (now (part .entry))) 0)) ⌝ }
+    ensures { λ _. ⌜ now (part .exit) ≡ written (now (part .entry)) 0 (after (chosen (sectionsOf bound form (tableOf (now (words .entry)))) index) (roomFor (length (now (part .entry))) 0)) ⌝ }
 {
     let mut space = [0u8; 4096];
-    match section::put_section(words, form, bound, index, &mut space) {
+    match section::put_section(words, bound, form, index, &mut space) {
         Reply::Refused(number, place) => Reply::Refused(number, place),
         Reply::Value(bytes) => {
             let size = bytes as usize;
@@ -82,8 +82,8 @@ fn write(bound: u64, form: u64, table: &[u8], index: u64, text: &mut [u8], at: u
     }
     let mut words = [0u64; 6147];
     match table::read_table(table, &mut words) {
-        Step::Bad(why, place) => Reply::Refused(why, place as u64),
-        Step::Next(_) => put(&words, form, bound, index, &mut text[from..]),
+        Onward::Bad(why, place) => Reply::Refused(why, place as u64),
+        Onward::To(_) => put(&words, bound, form, index, &mut text[from..]),
     }
 }
 

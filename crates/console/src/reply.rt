@@ -1,8 +1,8 @@
 // The numbers of a reply and of a verdict, one at a time.
 ghost use mathlib.Core.Path.{_≡_};
-ghost use Rattle.rules.specs.Answers.{numberOf, placeOf, valueOf, replyOf, itself};
+ghost use Rattle.basics.specs.Answers.{numberOf, placeOf, valueOf, replyOf, itself};
 ghost use Rattle.rules.specs.Checks.{verdictOf, costOf, operatorsIn, stepsIn};
-use rules::Reply;
+use basics::Reply;
 use rules::Verdict;
 
 pub fn number(reply: Reply) -> u64

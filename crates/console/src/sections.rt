@@ -1,9 +1,9 @@
 // Count the sections of a problem.
 ghost use mathlib.Core.Path.{_≡_};
-ghost use Rattle.rules.specs.Answers.{numberOf, placeOf, valueOf, replyOf, itself};
+ghost use Rattle.basics.specs.Answers.{numberOf, placeOf, valueOf, replyOf, itself};
 ghost use Rattle.rules.specs.Refusals.{countSections};
-use rules::Reply;
-use table::Step;
+use basics::Reply;
+use table::Onward;
 
 // In the order of the refusals: bound, form, table.
 fn count(bound: u64, form: u64, table: &[u8]) -> Reply
@@ -15,8 +15,8 @@ fn count(bound: u64, form: u64, table: &[u8]) -> Reply
     }
     let mut words = [0u64; 6147];
     match table::read_table(table, &mut words) {
-        Step::Bad(why, at) => Reply::Refused(why, at as u64),
-        Step::Next(_) => Reply::Value(problem::section_count(&words, form, bound)),
+        Onward::Bad(why, at) => Reply::Refused(why, at as u64),
+        Onward::To(_) => Reply::Value(problem::section_count(&words, bound, form)),
     }
 }
 

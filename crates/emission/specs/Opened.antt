@@ -3,9 +3,9 @@ use Prim.Native.Nat.{ℕ, _≤_}
 use mathlib.Core.Path.{_≡_}
 use mathlib.Core.List.{List}
 use lib.ListN.{getD, drop}
-use Rattle.rules.specs.Answers.{Answer, answer, refusal}
-use Rattle.rules.specs.declared.Reply.{Reply}
-use Rattle.rules.specs.declared.Reply.the-variants.{Value, Refused}
+use Rattle.basics.specs.Answers.{Answer, answer, refusal}
+use Rattle.basics.specs.declared.Reply.{Reply}
+use Rattle.basics.specs.declared.Reply.the-variants.{Value, Refused}
 use Rattle.rules.specs.Sections.{problemText}
 use Rattle.rules.specs.Refusals.{wholeProblem}
 use Rattle.words.specs.Words.{tableOf, Held}
@@ -16,5 +16,5 @@ emitInput input = wholeProblem (getD input 0 0) (getD input 1 0) (drop 2 input)
 
 -- What is known once it is opened, of the bound, the form and what has to be written: the table in words, where it is not refused.
 abbrev pub Opened : ℕ → ℕ → Answer (List ℕ) → Reply → List ℕ → Type 0
-Opened b f whole (Value v) words = Held words × (1 ≤ b) × (b ≤ 64) × (whole ≡ answer (problemText f (tableOf words) b))
+Opened b f whole (Value v) words = Held words × (1 ≤ b) × (b ≤ 64) × (whole ≡ answer (problemText b f (tableOf words)))
 Opened b f whole (Refused number place) words = whole ≡ refusal number place

@@ -3,7 +3,7 @@ ghost use mathlib.Core.Path.{_≡_};
 ghost use mathlib.Core.List.{_++_};
 ghost use Prim.Native.Nat.{_+_, _≤_, _<_};
 ghost use lib.ListN.{length, take, getD};
-ghost use Rattle.rules.specs.Lists.{upto};
+ghost use Rattle.basics.specs.Lists.{upto};
 ghost use Rattle.rules.specs.Tables.{actionCount, methodCount};
 ghost use Rattle.rules.specs.Sections.{variableCount, variableText};
 ghost use Rattle.rules.specs.Refusals.{wholeProblem};
@@ -12,8 +12,8 @@ ghost use Rattle.words.specs.Words.{tableOf, Held};
 ghost use Rattle.text.specs.Appends.{Appends};
 ghost use Rattle.template.specs.Figures.{Figures};
 ghost use Rattle.emission.specs.Opened.{emitInput, Opened};
-use rules::Reply;
-use table::Step;
+use basics::Reply;
+use table::Onward;
 
 pub fn emit(input: &[u8]) {
     let mut words = [0u64; 6147];
@@ -21,8 +21,8 @@ pub fn emit(input: &[u8]) {
         Reply::Refused(number, place) => show_refusal(number, place),
         Reply::Value(_) => show(
             &words,
-            report::byte(input, 1) as u64,
             report::byte(input, 0) as u64,
+            report::byte(input, 1) as u64,
         ),
     }
 }
@@ -48,8 +48,8 @@ fn open(bound: u64, form: u64, table: &[u8], words: &mut [u64]) -> Reply
         return Reply::Refused(why, 0);
     }
     match table::read_table(table, words) {
-        Step::Bad(why, at) => Reply::Refused(why, at as u64),
-        Step::Next(_) => Reply::Value(0),
+        Onward::Bad(why, at) => Reply::Refused(why, at as u64),
+        Onward::To(_) => Reply::Value(0),
     }
 }
 
@@ -60,15 +60,15 @@ fn show_refusal(number: u64, place: u64) {
 }
 
 // All sections: those before the operators, the operators, and the last.
-fn show(words: &[u64], form: u64, bound: u64)
+fn show(words: &[u64], bound: u64, form: u64)
     requires { ⌜ Held (now words) × (bound ≤ 64) ⌝ }
 {
     let mut figures = [0u8; 2048];
     template::fill_figures(&mut figures);
     let mut out = space();
-    let front = put_front(words, form, bound, &mut out);
+    let front = put_front(words, bound, form, &mut out);
     report::send(&out, front);
-    send_operators(words, form, bound, &figures, &mut out);
+    send_operators(words, bound, form, &figures, &mut out);
     report::send(b"0\n", 2);
 }
 
@@ -80,13 +80,13 @@ fn space() -> [u8; 524288]
 }
 
 // The operators, in parts that fill the space.
-fn send_operators(words: &[u64], form: u64, bound: u64, figures: &[u8], out: &mut [u8])
+fn send_operators(words: &[u64], bound: u64, form: u64, figures: &[u8], out: &mut [u8])
     requires { ⌜ Held (now words) × (bound ≤ 64) × Figures (now figures) 512 × (90176 ≤ length (now out)) ⌝ }
 {
     let steps = step_count(words);
     let mut next = 0;
     while next < steps {
-        let part = fill(words, form, bound, figures, next, out);
+        let part = fill(words, bound, form, figures, next, out);
         report::send(out, part.size);
         next = part.next;
     }
@@ -113,14 +113,14 @@ fn put_variables(words: &[u64], bound: u64, out: &mut [u8], at: usize) -> usize
 }
 
 // The sections before the operators.
-fn put_front(words: &[u64], form: u64, bound: u64, out: &mut [u8]) -> usize
+fn put_front(words: &[u64], bound: u64, form: u64, out: &mut [u8]) -> usize
     requires { ⌜ Held (now words) × (bound ≤ 64) × (268288 ≤ length (now out)) ⌝ }
-    ensures { λ r. ⌜ Appends (now (out .entry)) 0 (frontText form (tableOf (now (words .entry))) bound) (now (out .exit)) r ⌝ }
+    ensures { λ r. ⌜ Appends (now (out .entry)) 0 (frontText bound form (tableOf (now (words .entry)))) (now (out .exit)) r ⌝ }
     ensures { λ r. ⌜ r ≤ 268288 ⌝ }
 {
     let first = frame::put_preamble(words, bound, out, 0);
     let next = put_variables(words, bound, out, first);
-    frame::put_middle(words, form, bound, out, next)
+    frame::put_middle(words, bound, form, out, next)
 }
 
 // Where to go on, and how many bytes have been written.
@@ -130,10 +130,10 @@ struct Part {
 }
 
 // The operators from a step on, of as many steps as there is room for.
-fn fill(words: &[u64], form: u64, bound: u64, figures: &[u8], from: usize, out: &mut [u8]) -> Part
+fn fill(words: &[u64], bound: u64, form: u64, figures: &[u8], from: usize, out: &mut [u8]) -> Part
     requires { ⌜ Held (now words) × (bound ≤ 64) × Figures (now figures) 512 × (90176 ≤ length (now out)) ⌝ }
     requires { ⌜ from < actionCount (tableOf (now words)) + methodCount (tableOf (now words)) ⌝ }
-    ensures { λ r. ⌜ upto (stepText form (tableOf (now (words .entry))) bound) (r .next) ≡ upto (stepText form (tableOf (now (words .entry))) bound) from ++ take (r .size) (now (out .exit)) ⌝ }
+    ensures { λ r. ⌜ upto (stepText bound form (tableOf (now (words .entry)))) (r .next) ≡ upto (stepText bound form (tableOf (now (words .entry)))) from ++ take (r .size) (now (out .exit)) ⌝ }
     ensures { λ r. ⌜ (from < r .next) × (r .next ≤ actionCount (tableOf (now (words .entry))) + methodCount (tableOf (now (words .entry)))) × (r .size ≤ length (now (out .exit))) × (length (now (out .exit)) ≡ length (now (out .entry))) ⌝ }
 {
     let steps = step_count(words);
@@ -144,7 +144,7 @@ fn fill(words: &[u64], form: u64, bound: u64, figures: &[u8], from: usize, out: 
         if room < size {
             return Part { next, size };
         }
-        size = section::put_operators(words, form, bound, next, figures, out, size);
+        size = section::put_operators(words, bound, form, next, figures, out, size);
         next += 1;
     }
     Part { next, size }

@@ -10,10 +10,10 @@ use lib.Count.{ones, ones-le}
 use lib.Dec.{ltb, eqb}
 use lib.Pow.{pow-pos}
 use lib.ListN.{length, length-append, length-map}
-use Rattle.rules.specs.Lists.{rows, upto, concat}
+use Rattle.basics.specs.Lists.{rows, upto, concat}
 use Rattle.rules.specs.Tables.{Table, factCount, taskCount, startTask, startFacts, goalFacts}
 use Rattle.rules.specs.Facts.{has, membersOf}
-use Rattle.rules.specs.Texts.{bytes, digits, line}
+use Rattle.basics.specs.Texts.{bytes, digits, line}
 use Rattle.rules.specs.Operators.{operatorsOf}
 use Rattle.rules.specs.Sections.{variableCount, variable, factNames, heightNames, valueLine, variableText, startValue, goalLines, middle}
 use Rattle.laws.specs.Valid.{Valid}
@@ -136,7 +136,7 @@ goal-lines t h =
 parts : (s b c g e d n : List ℕ) → s ++ b ++ c ++ g ++ e ++ (d ++ n) ≡ s ++ (b ++ c ++ g ++ e) ++ d ++ n
 parts s b c g e d n = simp append-assoc
 
-pub middle-lines : (f : ℕ) (t : Table) (b : ℕ) → middle f t b ≡ stateText t b ++ goalText t ++ digits (length (operatorsOf f t b)) ++ bytes "\n"
+pub middle-lines : (b f : ℕ) (t : Table) → middle b f t ≡ stateText t b ++ goalText t ++ digits (length (operatorsOf b f t)) ++ bytes "\n"
 unfolding middle stateText goalText
-middle-lines f t b =
-    parts (stateText t b) (bytes "begin_goal\n") (line (digits (length (goalLines t)) ∷ [])) (concat (goalLines t)) (bytes "end_goal\n") (digits (length (operatorsOf f t b))) (bytes "\n")
+middle-lines b f t =
+    parts (stateText t b) (bytes "begin_goal\n") (line (digits (length (goalLines t)) ∷ [])) (concat (goalLines t)) (bytes "end_goal\n") (digits (length (operatorsOf b f t))) (bytes "\n")

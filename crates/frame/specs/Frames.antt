@@ -2,9 +2,9 @@
 use Prim.Native.Nat.{ℕ}
 use mathlib.Core.List.{List, [], _∷_, _++_}
 use lib.ListN.{length}
-use Rattle.rules.specs.Lists.{rows, concat}
+use Rattle.basics.specs.Lists.{rows, concat}
 use Rattle.rules.specs.Tables.{Table}
-use Rattle.rules.specs.Texts.{bytes, digits, line}
+use Rattle.basics.specs.Texts.{bytes, digits, line}
 use Rattle.rules.specs.Sections.{variableCount, startValue, goalLines}
 
 -- Text, a number, a line feed.

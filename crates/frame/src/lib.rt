@@ -3,7 +3,7 @@ ghost use mathlib.Core.Path.{_≡_};
 ghost use mathlib.Core.Bool.{cond};
 ghost use Prim.Native.Nat.{_+_, _≤_, _<_};
 ghost use lib.ListN.{length};
-ghost use Rattle.rules.specs.Lists.{upto};
+ghost use Rattle.basics.specs.Lists.{upto};
 ghost use Rattle.rules.specs.Tables.{startFacts};
 ghost use Rattle.rules.specs.Facts.{has as Facts·has};
 ghost use Rattle.rules.specs.Sections.{variableCount, preamble, variable, factNames, heightNames, variableText, startValue, middle};
@@ -195,12 +195,12 @@ fn put_goal(words: &[u64], out: &mut [u8], at: usize) -> usize
 }
 
 // State, goal, and how many operators there are.
-pub fn put_middle(words: &[u64], form: u64, bound: u64, out: &mut [u8], at: usize) -> usize
+pub fn put_middle(words: &[u64], bound: u64, form: u64, out: &mut [u8], at: usize) -> usize
     requires { ⌜ Held (now words) × (bound ≤ 64) × (at + 2048 ≤ length (now out)) ⌝ }
-    ensures { λ r. ⌜ Appends (now (out .entry)) at (middle form (tableOf (now (words .entry))) bound) (now (out .exit)) r ⌝ }
+    ensures { λ r. ⌜ Appends (now (out .entry)) at (middle bound form (tableOf (now (words .entry)))) (now (out .exit)) r ⌝ }
     ensures { λ r. ⌜ r ≤ at + 2048 ⌝ }
 {
-    let operators = operators::operator_count(words, form, bound);
+    let operators = operators::operator_count(words, bound, form);
     let goal = put_state(words, bound, out, at);
     let count = put_goal(words, out, goal);
     let end = text::put_number(out, count, operators);

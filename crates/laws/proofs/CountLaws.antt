@@ -8,7 +8,7 @@ use native.Mathlib.Omega.{arith}
 use borrow.Author.Tests.{lt-ltb, ne-eqb}
 use lib.Dec.{ltb, eqb}
 use lib.ListN.{length, length-append, length-map}
-use Rattle.rules.specs.Lists.{rows, upto, sumTo}
+use Rattle.basics.specs.Lists.{rows, upto, sumTo}
 use Rattle.rules.specs.Tables.{Table, actionCount, methodCount, factCount, method}
 use Rattle.rules.specs.Progression.{Step, act, mth, leading, prefix, remain}
 use Rattle.rules.specs.Operators.{Operator, joined, highest, positions, risingFrom1, operatorsOf}
@@ -29,12 +29,12 @@ pub prefix-short : (f : ℕ) (t : Table) (k : ℕ) → length (prefix f t k) ≤
 prefix-short zero t k = omega arith
 prefix-short (suc f) t k = leading-short (actionCount t) (method t k .subs)
 
-module _ (f : ℕ) (t : Table) (b k : ℕ) where
-  pub action-positions : k < actionCount t → positions f t b (act k) ≡ b
+module _ (b f : ℕ) (t : Table) (k : ℕ) where
+  pub action-positions : k < actionCount t → positions b f t (act k) ≡ b
   unfolding positions
   action-positions l = rw (lt-ltb k (actionCount t) l)
 
-  pub method-positions : k < methodCount t → positions f t b (mth k) ≡ cond (joined f t (mth k) .dead) 0 (highest b (remain f t k))
+  pub method-positions : k < methodCount t → positions b f t (mth k) ≡ cond (joined f t (mth k) .dead) 0 (highest b (remain f t k))
   unfolding positions
   method-positions l = rw (lt-ltb k (methodCount t) l)
 
@@ -43,55 +43,55 @@ highest-low b zero = omega arith
 highest-low b (suc r) = rw (ne-eqb (suc r) 0 (omega arith)) (omega arith)
 
 -- No method has more positions than the bound.
-pub method-positions-low : (f : ℕ) (t : Table) (b k : ℕ) → positions f t b (mth k) ≤ b
+pub method-positions-low : (b f : ℕ) (t : Table) (k : ℕ) → positions b f t (mth k) ≤ b
 unfolding positions
-method-positions-low f t b k = go (ltb k (methodCount t)) (joined f t (mth k) .dead)
+method-positions-low b f t k = go (ltb k (methodCount t)) (joined f t (mth k) .dead)
   where
     go : (c d : Bool) → cond c (cond d 0 (highest b (remain f t k))) 0 ≤ b
     go true true = omega arith
     go true false = highest-low b (remain f t k)
     go false d = omega arith
 
-pub methods-low : (f : ℕ) (t : Table) (b n : ℕ) → sumTo (λ k. positions f t b (mth k)) n ≤ b * n
-methods-low f t b n = sum-most (λ k. positions f t b (mth k)) b (method-positions-low f t b) n
+pub methods-low : (b f : ℕ) (t : Table) (n : ℕ) → sumTo (λ k. positions b f t (mth k)) n ≤ b * n
+methods-low b f t n = sum-most (λ k. positions b f t (mth k)) b (method-positions-low b f t) n
 
 -- 64 positions for each of 255 actions and 512 methods.
-pub few-operators : (f : ℕ) (t : Table) (b n : ℕ) → Valid t → b ≤ 64 → n ≤ methodCount t
-    → actionCount t * b + sumTo (λ k. positions f t b (mth k)) n ≤ 49088
-few-operators f t b n v h l =
+pub few-operators : (b f : ℕ) (t : Table) (n : ℕ) → Valid t → b ≤ 64 → n ≤ methodCount t
+    → actionCount t * b + sumTo (λ k. positions b f t (mth k)) n ≤ 49088
+few-operators b f t n v h l =
     omega (
       arith,
       mul-le-mul-right b (v .head .actions),
-      methods-low f t b n,
+      methods-low b f t n,
       mul-le-mul-right n h,
       v .head .methods,
     )
 
-kind-length : (f : ℕ) (t : Table) (b : ℕ) (kind : ℕ → Step) (n : ℕ)
-    → length (upto (λ k. risingFrom1 (kind k) (positions f t b (kind k))) n) ≡ sumTo (λ k. positions f t b (kind k)) n
-kind-length f t b kind n =
-    upto-length (λ k. risingFrom1 (kind k) (positions f t b (kind k))) n
-    ∙ sum-same (λ k. length (risingFrom1 (kind k) (positions f t b (kind k)))) (λ k. positions f t b (kind k)) n
-    (λ k l. rows-length (λ i. record { what = kind k; at = suc i }) (positions f t b (kind k)))
+kind-length : (b f : ℕ) (t : Table) (kind : ℕ → Step) (n : ℕ)
+    → length (upto (λ k. risingFrom1 (kind k) (positions b f t (kind k))) n) ≡ sumTo (λ k. positions b f t (kind k)) n
+kind-length b f t kind n =
+    upto-length (λ k. risingFrom1 (kind k) (positions b f t (kind k))) n
+    ∙ sum-same (λ k. length (risingFrom1 (kind k) (positions b f t (kind k)))) (λ k. positions b f t (kind k)) n
+    (λ k l. rows-length (λ i. record { what = kind k; at = suc i }) (positions b f t (kind k)))
 
 -- b operators for each action, and the positions of each method.
-pub operators-length : (f : ℕ) (t : Table) (b : ℕ)
-    → length (operatorsOf f t b) ≡ actionCount t * b + sumTo (λ k. positions f t b (mth k)) (methodCount t)
+pub operators-length : (b f : ℕ) (t : Table)
+    → length (operatorsOf b f t) ≡ actionCount t * b + sumTo (λ k. positions b f t (mth k)) (methodCount t)
 unfolding operatorsOf
-operators-length f t b =
-    length-append (upto (λ k. risingFrom1 (act k) (positions f t b (act k))) (actionCount t)) _
+operators-length b f t =
+    length-append (upto (λ k. risingFrom1 (act k) (positions b f t (act k))) (actionCount t)) _
     ∙ ap₂ _+_
-    (kind-length f t b act (actionCount t)
-    ∙ sum-same (λ k. positions f t b (act k)) (λ _. b) (actionCount t) (λ k l. action-positions f t b k l)
+    (kind-length b f t act (actionCount t)
+    ∙ sum-same (λ k. positions b f t (act k)) (λ _. b) (actionCount t) (λ k l. action-positions b f t k l)
     ∙ sum-even b (actionCount t)
     ∙ mul-comm b (actionCount t))
-    (kind-length f t b mth (methodCount t))
+    (kind-length b f t mth (methodCount t))
 
-pub operators-few : (f : ℕ) (t : Table) (b : ℕ) → Valid t → b ≤ 64 → length (operatorsOf f t b) ≤ 49088
-operators-few f t b v h = rw (operators-length f t b) (few-operators f t b (methodCount t) v h (omega arith))
+pub operators-few : (b f : ℕ) (t : Table) → Valid t → b ≤ 64 → length (operatorsOf b f t) ≤ 49088
+operators-few b f t v h = rw (operators-length b f t) (few-operators b f t (methodCount t) v h (omega arith))
 
 -- One section, one for each variable, one, one for each operator, and one.
-pub sections-length : (f : ℕ) (t : Table) (b : ℕ) → length (sectionsOf f t b) ≡ variableCount t b + length (operatorsOf f t b) + 3
+pub sections-length : (b f : ℕ) (t : Table) → length (sectionsOf b f t) ≡ variableCount t b + length (operatorsOf b f t) + 3
 unfolding sectionsOf
-sections-length f t b =
+sections-length b f t =
     simp (length-append, length-map, rows-length) (omega arith)

@@ -8,7 +8,7 @@ use lib.ListN.{length, length-append}
 use lib.Dec.{T, leb, ltb, eqb, leb→le, le→leb, ltb→lt, eqb→eq}
 use Rattle.rules.specs.Tables.{Table, actionCount, methodCount, startTask, method}
 use Rattle.rules.specs.Progression.{Step, act, mth}
-use Rattle.rules.specs.LeastBounds.{Clears, Least, boundOf, rise, upTo64}
+use Rattle.rules.specs.LeastBounds.{Clears, Least, boundOf, rise, upToMost}
 use Rattle.laws.specs.Bounds.{Sound, Closed}
 use Rattle.laws.proofs.TestLaws.{and-l, and-r}
 
@@ -62,30 +62,30 @@ module _ (t : Table) where
       let q = clear-all v s b h ts (omega arith) in
       (p .0 ++ q .0, above (boundOf v c) b ts (q .0) (omega arith) (q .1) (p .0) (c ∷ []) (p .1))
 
-upTo64-low : (n : ℕ) → n ≤ 64 → upTo64 n ≡ n
-upTo64-low n h = go (leb n 64) (le→leb n 64 h)
+upToMost-low : (n : ℕ) → n ≤ 64 → upToMost n ≡ n
+upToMost-low n h = go (leb n 64) (le→leb n 64 h)
   where
     go : (c : Bool) → T c → cond c n 0 ≡ n
     go true x = refl
     go false x = absurd x
 
-upTo64-some : (n : ℕ) → 1 ≤ upTo64 n → n ≤ 64
-upTo64-some n h = go (leb n 64) refl h
+upToMost-some : (n : ℕ) → 1 ≤ upToMost n → n ≤ 64
+upToMost-some n h = go (leb n 64) refl h
   where
     go : (c : Bool) → leb n 64 ≡ c → 1 ≤ cond c n 0 → n ≤ 64
     go true e x = leb→le n 64 (rw e tt)
     go false e x = absurd (omega arith)
 
 -- Sound and closed bounds give the least bound.
-pub least : (t : Table) (v : List ℕ) → Sound t v → Closed t v → Least t (upTo64 (boundOf v (startTask t)))
+pub least : (t : Table) (v : List ℕ) → Sound t v → Closed t v → Least t (upToMost (boundOf v (startTask t)))
 unfolding Sound
 least t v s closed =
     record {
       clears = λ h.
-          let n : boundOf v (startTask t) ≤ 64 = upTo64-some (boundOf v (startTask t)) h in
-          rw (upTo64-low (boundOf v (startTask t)) n) (n, (closed .some (startTask t), s (startTask t) n));
+          let n : boundOf v (startTask t) ≤ 64 = upToMost-some (boundOf v (startTask t)) h in
+          rw (upToMost-low (boundOf v (startTask t)) n) (n, (closed .some (startTask t), s (startTask t) n));
       smallest = λ b h c.
           let q = clears-rise t v closed b (c .1 .0) (startTask t ∷ []) (c .0) (c .1 .1) in
           let n : boundOf v (startTask t) ≤ 64 = omega (arith, q) in
-          rw (upTo64-low (boundOf v (startTask t)) n) (closed .some (startTask t), omega (arith, q));
+          rw (upToMost-low (boundOf v (startTask t)) n) (closed .some (startTask t), omega (arith, q));
     }

@@ -8,7 +8,7 @@ use native.Mathlib.Numerals.{add-one}
 use native.Mathlib.Omega.{arith}
 use lib.ListN.{length, getD, length-append, List·getD-append}
 use lib.Seq.{getD-at, getD-append-add}
-use Rattle.rules.specs.Lists.{rows, upto, sumTo}
+use Rattle.basics.specs.Lists.{rows, upto, sumTo}
 
 module _ {A : Type 0} (f : ℕ → A) where
   pub rows-length : (n : ℕ) → length (rows f n) ≡ n

@@ -14,7 +14,7 @@ use lib.Dec.{ltb, leb, eqb, lit<}
 use lib.ListN.{length, take, drop, getD, drop-of-length-le, length-drop}
 use lib.Seq.{drop-cons, slice, slice-cons, slice-empty, getD-drop}
 use Rattle.rules.specs.Numbers.{run, spell, sound, numberAt, readNumber, inRange, ranged}
-use Rattle.rules.specs.Readings.{Reading, got, bad, then}
+use Rattle.basics.specs.Readings.{Reading, got, bad, then}
 
 module _ (s : List ℕ) (i : ℕ) where
   pub run-end : length s ≤ i → run (drop i s) ≡ 0

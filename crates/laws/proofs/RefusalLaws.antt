@@ -6,8 +6,8 @@ use Prim.Native.Nat.{ℕ, _≤_, _<_}
 use borrow.Author.Tests.{le-leb, lt-leb}
 use lib.Dec.{leb}
 use lib.ListN.{length}
-use Rattle.rules.specs.Answers.{Answer, answer, refusal, check, after}
-use Rattle.rules.specs.Readings.{Reading, got, bad}
+use Rattle.basics.specs.Answers.{Answer, answer, refusal, check, after}
+use Rattle.basics.specs.Readings.{Reading, got, bad}
 use Rattle.rules.specs.Tables.{Table, decode}
 use Rattle.rules.specs.Refusals.{tableFits, planFits, readOf, withTable}
 

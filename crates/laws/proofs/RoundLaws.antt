@@ -10,7 +10,7 @@ use lib.Seq.{getD-set-same, getD-set-other}
 use lib.Dec.{T, ltb, eqb, ltb→lt, lt→ltb, nltb→le, eqb-refl}
 use Rattle.rules.specs.Tables.{Table, Method, actionCount, taskCount, methodCount, startTask, method}
 use Rattle.rules.specs.Progression.{Step, act, mth}
-use Rattle.rules.specs.LeastBounds.{Clears, Least, boundOf, rise, methodBound, lowers, improve, round, settled, rounds, total, first, upTo64, leastBound}
+use Rattle.rules.specs.LeastBounds.{Clears, Least, boundOf, rise, methodBound, lowers, improve, round, settled, rounds, total, first, upToMost, leastBound}
 use Rattle.laws.specs.Valid.{Valid}
 use Rattle.laws.specs.Bounds.{Sound, Kept}
 use Rattle.laws.proofs.TestLaws.{and-l, and-r, and-i, not-and-not}
@@ -109,7 +109,7 @@ record Settled (t : Table) (v : List ℕ) : Type 0 where
   kept : Kept t v
   done : T (settled t v (methodCount t))
 
-settled-is-least : (t : Table) (v : List ℕ) → Kept t v → T (settled t v (methodCount t)) → Least t (upTo64 (boundOf v (startTask t)))
+settled-is-least : (t : Table) (v : List ℕ) → Kept t v → T (settled t v (methodCount t)) → Least t (upToMost (boundOf v (startTask t)))
 settled-is-least t v q h = least t v (q .sound) (record { some = q .some; acts = q .acts; mths = settled-closed t v (methodCount t) h })
 
 module _ (t : Table) (valid : Valid t) where
@@ -242,5 +242,5 @@ pub round-falls : (t : Table) (v : List ℕ) → Valid t → Kept t v → (r : B
 round-falls t v valid q true e = omega (arith, falls t valid v q (methodCount t) (omega arith) (rw (← e) tt))
 round-falls t v valid q false e = rw (still t v (methodCount t) (settles-by (settled t v (methodCount t)) e)) (omega arith)
 
-pub settled-least : (t : Table) (v : List ℕ) → Valid t → Kept t v → T (settled t v (methodCount t)) → leastBound t ≡ upTo64 (boundOf v (startTask t))
+pub settled-least : (t : Table) (v : List ℕ) → Valid t → Kept t v → T (settled t v (methodCount t)) → leastBound t ≡ upToMost (boundOf v (startTask t))
 settled-least t v valid q h = least-one t _ _ (computed t valid) (settled-is-least t v q h)

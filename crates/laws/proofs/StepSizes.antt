@@ -41,19 +41,19 @@ module _ (f : ℕ) (t : Table) (v : Valid t) (i : ℕ) (l : i < actionCount t + 
       (λ k h. omega (arith, prefix-cheap f t k v h))
 
   -- Even at its highest position a step leaves the stack at most 64 high.
-  pub height-low : (b : ℕ) → b ≤ 64 → positions f t b (stepAt t i) + length (leaves f t (stepAt t i)) ≤ 65
+  pub height-low : (b : ℕ) → b ≤ 64 → positions b f t (stepAt t i) + length (leaves f t (stepAt t i)) ≤ 65
   height-low b h =
-      by-step t (λ _ x. positions f t b x + length (leaves f t x) ≤ 65) i l
-      (λ k p. omega (arith, action-positions f t b k p))
+      by-step t (λ _ x. positions b f t x + length (leaves f t x) ≤ 65) i l
+      (λ k p. omega (arith, action-positions b f t k p))
       (λ k p.
       omega (
         arith,
         stay-length f t k,
-        method-positions f t b k p,
+        method-positions b f t k p,
         highest-fits (joined f t (mth k) .dead) b (remain f t k) h (omega (arith, v .method k p .count)),
       ))
 
   -- No step has more positions than there are.
-  pub positions-low : (b : ℕ) → positions f t b (stepAt t i) ≤ b
+  pub positions-low : (b : ℕ) → positions b f t (stepAt t i) ≤ b
   positions-low b =
-      by-step t (λ _ x. positions f t b x ≤ b) i l (λ k p. omega (arith, action-positions f t b k p)) (λ k p. method-positions-low f t b k)
+      by-step t (λ _ x. positions b f t x ≤ b) i l (λ k p. omega (arith, action-positions b f t k p)) (λ k p. method-positions-low b f t k)

@@ -9,7 +9,7 @@ use lib.Dec.{ltb}
 use native.Mathlib.Nat.{eq-or-lt-of-le}
 use Prim.Native.Nat.{ℕ, zero, suc, _+_, _-_, _≤_, _<_}
 use native.Mathlib.Omega.{arith}
-use Rattle.rules.specs.Readings.{Reading, got, bad, then, many}
+use Rattle.basics.specs.Readings.{Reading, got, bad, then, many}
 use Rattle.rules.specs.Numbers.{ranged}
 use Rattle.rules.specs.Tables.{Header, Action, Method, Table, allFacts, noAction, noMethod, taskCount, methodCount, method, header, readAction, readMethod, closed, decode}
 use Rattle.laws.specs.Valid.{Bounded, GoodAction, GoodMethod, Valid}

@@ -9,8 +9,8 @@ use native.Mathlib.Decide.{decLt}
 use native.Mathlib.Omega.{arith}
 use borrow.Author.Tests.{lt-ltb, le-ltb}
 use lib.ListN.{length, length-append}
-use Rattle.rules.specs.Texts.{digit, digitsF, digits}
-use Rattle.rules.specs.Lists.{rows, upto, concat}
+use Rattle.basics.specs.Texts.{digit, digitsF, digits}
+use Rattle.basics.specs.Lists.{rows, upto, concat}
 use Rattle.rules.specs.Facts.{has, membersFrom, membersOf}
 
 -- ---- digits

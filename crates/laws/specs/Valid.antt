@@ -2,14 +2,15 @@
 use Prim.Native.Nat.{ℕ, _+_, _-_, _≤_, _<_}
 use mathlib.Core.Path.{_≡_}
 use lib.ListN.{length, getD}
+use Rattle.rules.specs.Limits.{mostFacts, mostActions, mostTasks, mostMethods, mostSubtasks, mostCost}
 use Rattle.rules.specs.Tables.{Header, Action, Method, Table, allFacts, action, method}
 
 pub record Bounded (h : Header) : Type 0 where
-  pub facts : h .facts ≤ 64
-  pub actions : h .actions ≤ 255
+  pub facts : h .facts ≤ mostFacts
+  pub actions : h .actions ≤ mostActions
   pub abstracts : 1 ≤ h .abstracts
-  pub tasks : h .abstracts ≤ 256 - h .actions
-  pub methods : h .methods ≤ 512
+  pub tasks : h .abstracts ≤ mostTasks - h .actions
+  pub methods : h .methods ≤ mostMethods
   pub start-low : h .actions ≤ h .start
   pub start-high : h .start ≤ h .actions + h .abstracts - 1
   pub init : h .init ≤ allFacts (h .facts)
@@ -19,12 +20,12 @@ pub record GoodAction (h : Header) (a : Action) : Type 0 where
   pub needs : a .needs ≤ allFacts (h .facts)
   pub adds : a .adds ≤ allFacts (h .facts)
   pub dels : a .dels ≤ allFacts (h .facts)
-  pub cost : a .cost ≤ 65535
+  pub cost : a .cost ≤ mostCost
 
 pub record GoodMethod (h : Header) (m : Method) : Type 0 where
   pub low : h .actions ≤ m .head
   pub high : m .head ≤ h .actions + h .abstracts - 1
-  pub count : length (m .subs) ≤ 8
+  pub count : length (m .subs) ≤ mostSubtasks
   pub subs : (j : ℕ) → j < length (m .subs) → getD (m .subs) j 0 ≤ h .actions + h .abstracts - 1
 
 pub record Valid (t : Table) : Type 0 where

@@ -10,7 +10,7 @@ use lib.ListN.{length, getD, set, drop, replicate, length-replicate, drop-of-len
 use lib.Seq.{drop-cons, getD-set-same, getD-set-other}
 use borrow.Author.Tests.{lt-ltb, le-ltb, le-leb, lt-leb}
 use Rattle.rules.specs.Tables.{Table, Method, actionCount, taskCount, startTask, method}
-use Rattle.rules.specs.LeastBounds.{boundOf, rise, methodBound, lowers, improve, round, settled, upTo64}
+use Rattle.rules.specs.LeastBounds.{boundOf, rise, methodBound, lowers, improve, round, settled, upToMost}
 use Rattle.laws.specs.Bounds.{Kept}
 use Rattle.laws.proofs.RoundLaws.{settled-more, begins}
 use Rattle.least.specs.Ones.{Ones}
@@ -67,10 +67,10 @@ module _ (t : Table) (v : List ℕ) (start : ℕ) (e : start ≡ startTask t) (l
   found : getD v start 0 ≡ boundOf v (startTask t)
   found = bound-in v start l ∙ ap (boundOf v) e
 
-  pub start-low : getD v start 0 ≤ 64 → getD v start 0 ≡ upTo64 (boundOf v (startTask t))
+  pub start-low : getD v start 0 ≤ 64 → getD v start 0 ≡ upToMost (boundOf v (startTask t))
   start-low h = sym (rw (← found, le-leb (getD v start 0) 64 h))
 
-  pub start-high : 64 < getD v start 0 → 0 ≡ upTo64 (boundOf v (startTask t))
+  pub start-high : 64 < getD v start 0 → 0 ≡ upToMost (boundOf v (startTask t))
   start-high h = sym (rw (← found, lt-leb (getD v start 0) 64 h))
 
 -- One more method of a round.

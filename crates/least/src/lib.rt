@@ -5,7 +5,7 @@ ghost use Prim.Native.Nat.{_<_, _≤_, max};
 ghost use lib.ListN.{length};
 ghost use lib.Dec.{T};
 ghost use Rattle.rules.specs.Tables.{taskCount, methodCount, startTask, method};
-ghost use Rattle.rules.specs.LeastBounds.{boundOf, methodBound, lowers, improve, round, settled, upTo64, leastBound};
+ghost use Rattle.rules.specs.LeastBounds.{boundOf, methodBound, lowers, improve, round, settled, upToMost, leastBound};
 ghost use Rattle.laws.specs.Bounds.{Kept};
 ghost use Rattle.least.specs.Ones.{Ones};
 ghost use Rattle.words.specs.Words.{tableOf, Held};
@@ -94,7 +94,7 @@ fn put_ones(bounds: &mut [u8], n: usize)
 // The starting task's bound, 0 where none is known.
 fn start_bound(words: &[u64], bounds: &[u8]) -> u64
     requires { ⌜ Held (now words) × (taskCount (tableOf (now words)) ≤ length (now bounds)) ⌝ }
-    ensures { λ r. ⌜ r ≡ upTo64 (boundOf (now (bounds .entry)) (startTask (tableOf (now (words .entry))))) ⌝ }
+    ensures { λ r. ⌜ r ≡ upToMost (boundOf (now (bounds .entry)) (startTask (tableOf (now (words .entry))))) ⌝ }
 {
     let start = words::start_task(words) as usize;
     let bound = bounds[start] as u64;

@@ -11,7 +11,7 @@ use lib.Dec.{eqb, lit<}
 use lib.ListN.{length, drop, getD}
 use lib.Seq.{slice, slice-cons}
 use Rattle.rules.specs.Numbers.{run, spell, sound, readNumber}
-use Rattle.rules.specs.Readings.{got, bad}
+use Rattle.basics.specs.Readings.{got, bad}
 use Rattle.laws.proofs.NumberLaws.{run-stop, run-more, spell-one, number-got, number-long}
 
 -- The first j groups of the number at a place have the top bit set and spell v; p is 128 ^ j.

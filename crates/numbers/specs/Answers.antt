@@ -1,6 +1,6 @@
 -- What the code's answer says, as a reading of the document.
 use Prim.Native.Nat.{ℕ}
-use Rattle.rules.specs.Readings.{Reading, got, bad}
+use Rattle.basics.specs.Readings.{Reading, got, bad}
 use Rattle.numbers.specs.declared.Num.{Num}
 use Rattle.numbers.specs.declared.Num.the-variants.{Got, Bad}
 

@@ -53,9 +53,9 @@ pub fn highest_position(dead: bool, bound: u64, r: u64) -> u64
 }
 
 // At how many positions method k has an operator: 1 to this.
-pub fn method_positions(words: &[u64], form: u64, bound: u64, k: usize) -> u64
+pub fn method_positions(words: &[u64], bound: u64, form: u64, k: usize) -> u64
     requires { ⌜ Held (now words) × (bound ≤ 64) × (k < methodCount (tableOf (now words))) ⌝ }
-    ensures { λ r. ⌜ r ≡ positions form (tableOf (now (words .entry))) bound (mth k) ⌝ }
+    ensures { λ r. ⌜ r ≡ positions bound form (tableOf (now (words .entry))) (mth k) ⌝ }
 {
     let prefix = prefix_of(words, form, k);
     let join = prefix.join;
@@ -64,15 +64,15 @@ pub fn method_positions(words: &[u64], form: u64, bound: u64, k: usize) -> u64
 }
 
 // How many operators there are.
-pub fn operator_count(words: &[u64], form: u64, bound: u64) -> u64
+pub fn operator_count(words: &[u64], bound: u64, form: u64) -> u64
     requires { ⌜ Held (now words) × (bound ≤ 64) ⌝ }
-    ensures { λ r. ⌜ r ≡ length (operatorsOf form (tableOf (now (words .entry))) bound) ⌝ }
+    ensures { λ r. ⌜ r ≡ length (operatorsOf bound form (tableOf (now (words .entry)))) ⌝ }
 {
     let methods = words::method_count(words);
     let mut count = words::action_count(words) * bound;
     let mut k: usize = 0;
     while k < methods {
-        count += method_positions(words, form, bound, k);
+        count += method_positions(words, bound, form, k);
         k += 1;
     }
     count

@@ -8,7 +8,7 @@ use native.Mathlib.Omega.{arith}
 use borrow.Author.Tests.{eq-eqb, ne-eqb}
 use lib.Dec.{eqb}
 use lib.ListN.{length, drop}
-use Rattle.rules.specs.Answers.{refusal, check}
+use Rattle.basics.specs.Answers.{refusal, check}
 use Rattle.rules.specs.Tables.{Table, startTask, startFacts, goalFacts}
 use Rattle.rules.specs.Facts.{holds}
 use Rattle.rules.specs.Progression.{isEmpty, afterAll, totalCost}
@@ -19,59 +19,59 @@ use Rattle.lines.specs.Lines.{kindStep, OperatorLine, CommentLine, IsLine}
 use Rattle.lines.specs.declared.Line.the-variants.{Shape}
 use Rattle.lines.proofs.PlaceLaws.{no-line}
 use Rattle.rows.specs.Stacks.{stackOf}
-use Rattle.run.specs.Steps.{Point, Moved, stateOf, placeOf, refused, reached, documentStep}
-use Rattle.run.specs.Runs.{TallyOk, pointOf, turnedOf}
-use Rattle.run.specs.declared.Tally.{Tally}
+use Rattle.run.specs.Steps.{Point, Moved, stateOf, checkAt, refused, reached, documentStep}
+use Rattle.run.specs.Runs.{ProgressOk, pointOf, turnedOf}
+use Rattle.run.specs.declared.Progress.{Progress}
 use Rattle.run.specs.declared.Turned.{Turned}
 use Rattle.run.proofs.StepLaws.{check-step}
 
 -- What a line of each kind does.
-module _ (f : ℕ) (t : Table) (b : ℕ) (n : ℕ) (p : Point) where
-  pub shape-line : {rest ls : List Line} → ls ≡ other ∷ rest → checkFrom f t b (placeOf n p) ls ≡ refusal 11 (n + 1)
+module _ (b f : ℕ) (t : Table) (n : ℕ) (p : Point) where
+  pub shape-line : {rest ls : List Line} → ls ≡ other ∷ rest → checkFrom b f t (checkAt n p) ls ≡ refusal 11 (n + 1)
   shape-line e = rw (e, add-one)
 
-  pub comment-line : {rest ls : List Line} → ls ≡ note ∷ rest → checkFrom f t b (placeOf n p) ls ≡ checkFrom f t b (placeOf (n + 1) p) rest
+  pub comment-line : {rest ls : List Line} → ls ≡ note ∷ rest → checkFrom b f t (checkAt n p) ls ≡ checkFrom b f t (checkAt (n + 1) p) rest
   comment-line e = rw (e, add-one)
 
-  module _ (o : Operator) {rest ls : List Line} {m : Moved} (e : ls ≡ oper o ∷ rest) (d : m ≡ documentStep f t b o p) where
-    pub operator-moves : m .number ≡ 0 → checkFrom f t b (placeOf n p) ls ≡ checkFrom f t b (placeOf (n + 1) (m .point)) rest
+  module _ (o : Operator) {rest ls : List Line} {m : Moved} (e : ls ≡ oper o ∷ rest) (d : m ≡ documentStep b f t o p) where
+    pub operator-moves : m .number ≡ 0 → checkFrom b f t (checkAt n p) ls ≡ checkFrom b f t (checkAt (n + 1) (m .point)) rest
     operator-moves z =
-        rw (e, add-one, d) (check-step f t b n p o rest ∙ rw (eq-eqb _ 0 (ap (λ (x : Moved). x .number) (sym d) ∙ z)))
+        rw (e, add-one, d) (check-step b f t n p o rest ∙ rw (eq-eqb _ 0 (ap (λ (x : Moved). x .number) (sym d) ∙ z)))
 
-    pub operator-refused : (m .number ≡ 0 → ⊥) → checkFrom f t b (placeOf n p) ls ≡ refusal (m .number) (n + 1)
+    pub operator-refused : (m .number ≡ 0 → ⊥) → checkFrom b f t (checkAt n p) ls ≡ refusal (m .number) (n + 1)
     operator-refused z =
-        rw (e, add-one, d) (check-step f t b n p o rest ∙ rw (ne-eqb _ 0 (λ q. z (ap (λ (x : Moved). x .number) d ∙ q))))
+        rw (e, add-one, d) (check-step b f t n p o rest ∙ rw (ne-eqb _ 0 (λ q. z (ap (λ (x : Moved). x .number) d ∙ q))))
 
 -- A check on its way: what is left of the text gives the whole answer.
-pub record Going (f : ℕ) (t : Table) (b : ℕ) (text stack : List ℕ) (run : Tally) (at lines : ℕ) : Type 0 where
+pub record Going (b f : ℕ) (t : Table) (text stack : List ℕ) (run : Progress) (at lines : ℕ) : Type 0 where
   pub cells : length stack ≡ 72
-  pub ok : TallyOk run
+  pub ok : ProgressOk run
   pub few : 2 * run .operators ≤ at
   pub passed : lines ≤ at
   pub within : at ≤ length text
-  pub rest : checkFrom f t b (placeOf lines (pointOf run stack)) (linesOf (drop at text)) ≡ checkLines f t b (linesOf text)
+  pub rest : checkFrom b f t (checkAt lines (pointOf run stack)) (linesOf (drop at text)) ≡ checkLines b f t (linesOf text)
 
 -- It begins with the starting task alone on the stack.
-pub going-begins : {f : ℕ} {t : Table} {b : ℕ} {text stack : List ℕ} {run : Tally} → length stack ≡ 72 → stackOf stack 1 ≡ startTask t ∷ []
+pub going-begins : {f : ℕ} {t : Table} {b : ℕ} {text stack : List ℕ} {run : Progress} → length stack ≡ 72 → stackOf stack 1 ≡ startTask t ∷ []
     → run ≡ record { facts = startFacts t; height = 1; operators = 0; steps = 0; cost = 0 }
-    → Going f t b text stack run 0 0
+    → Going b f t text stack run 0 0
 unfolding checkLines
 going-begins {f} {t} {b} {text} {stack} l e d =
-    subst (λ (r : Tally). Going f t b text stack r 0 0) (sym d)
+    subst (λ (r : Progress). Going b f t text stack r 0 0) (sym d)
     (record {
       cells = l;
       ok = record { height = omega arith; operators = omega arith; steps = omega arith; cost = omega arith };
       few = omega arith;
       passed = omega arith;
       within = omega arith;
-      rest = ap (λ (st : List ℕ). checkFrom f t b (placeOf 0 (record { facts = startFacts t; stack = st; operators = 0; steps = 0; cost = 0 })) (linesOf text)) e;
+      rest = ap (λ (st : List ℕ). checkFrom b f t (checkAt 0 (record { facts = startFacts t; stack = st; operators = 0; steps = 0; cost = 0 })) (linesOf text)) e;
     })
 
 -- An operator that is applied counts one.
-counts-one : (f : ℕ) (t : Table) (b : ℕ) (o : Operator) (p : Point) → documentStep f t b o p .number ≡ 0
-    → documentStep f t b o p .point .operators ≡ suc (p .operators)
+counts-one : (b f : ℕ) (t : Table) (o : Operator) (p : Point) → documentStep b f t o p .number ≡ 0
+    → documentStep b f t o p .point .operators ≡ suc (p .operators)
 unfolding documentStep
-counts-one f t b o p = go (emitted f t b o) (applies f t (stateOf p) o)
+counts-one b f t o p = go (emitted b f t o) (applies f t (stateOf p) o)
   where
     done : Moved
     done = reached p (afterAll t (stateOf p) (expand f t o)) (length (expand f t o)) (totalCost t (expand f t o))
@@ -83,11 +83,11 @@ counts-one f t b o p = go (emitted f t b o) (applies f t (stateOf p) o)
     go false y z = absurd (omega arith)
 
 -- One line more, of each kind, and the end of the text.
-module _ {f : ℕ} {t : Table} {b : ℕ} {text stack : List ℕ} {run : Tally} {at lines : ℕ} (g : Going f t b text stack run at lines) where
-  pub shape-out : IsLine text at Shape → refusal 11 (lines + 1) ≡ checkLines f t b (linesOf text)
-  shape-out h = sym (shape-line f t b lines (pointOf run stack) (h .1)) ∙ g .rest
+module _ {f : ℕ} {t : Table} {b : ℕ} {text stack : List ℕ} {run : Progress} {at lines : ℕ} (g : Going b f t text stack run at lines) where
+  pub shape-out : IsLine text at Shape → refusal 11 (lines + 1) ≡ checkLines b f t (linesOf text)
+  shape-out h = sym (shape-line b f t lines (pointOf run stack) (h .1)) ∙ g .rest
 
-  pub comment-on : {next : ℕ} → CommentLine text at next → Going f t b text stack run next (lines + 1)
+  pub comment-on : {next : ℕ} → CommentLine text at next → Going b f t text stack run next (lines + 1)
   comment-on h =
       record {
         cells = g .cells;
@@ -95,19 +95,19 @@ module _ {f : ℕ} {t : Table} {b : ℕ} {text stack : List ℕ} {run : Tally} {
         few = omega (arith, g .few, h .onward);
         passed = omega (arith, g .passed, h .onward);
         within = h .within;
-        rest = sym (comment-line f t b lines (pointOf run stack) (h .lines)) ∙ g .rest;
+        rest = sym (comment-line b f t lines (pointOf run stack) (h .lines)) ∙ g .rest;
       }
 
   module _ {kind number pos next : ℕ} (h : OperatorLine text at kind number pos next) (r : Turned) (stack′ : List ℕ)
-      (d : turnedOf r stack′ ≡ documentStep f t b (record { what = kindStep kind number; at = pos }) (pointOf run stack)) where
-    pub operator-out : (r .number ≡ 0 → ⊥) → refusal (r .number) (lines + 1) ≡ checkLines f t b (linesOf text)
-    operator-out z = sym (operator-refused f t b lines (pointOf run stack) _ (h .lines) d z) ∙ g .rest
+      (d : turnedOf r stack′ ≡ documentStep b f t (record { what = kindStep kind number; at = pos }) (pointOf run stack)) where
+    pub operator-out : (r .number ≡ 0 → ⊥) → refusal (r .number) (lines + 1) ≡ checkLines b f t (linesOf text)
+    operator-out z = sym (operator-refused b f t lines (pointOf run stack) _ (h .lines) d z) ∙ g .rest
 
-    pub operator-on : length stack′ ≡ 72 → TallyOk (r .tally) → r .number ≡ 0 → Going f t b text stack′ (r .tally) next (lines + 1)
+    pub operator-on : length stack′ ≡ 72 → ProgressOk (r .progress) → r .number ≡ 0 → Going b f t text stack′ (r .progress) next (lines + 1)
     operator-on l k z =
-        let n : r .tally .operators ≡ suc (run .operators) =
+        let n : r .progress .operators ≡ suc (run .operators) =
         ap (λ (m : Moved). m .point .operators) d
-        ∙ counts-one f t b (record { what = kindStep kind number; at = pos }) (pointOf run stack) (sym (ap (λ (m : Moved). m .number) d) ∙ z)
+        ∙ counts-one b f t (record { what = kindStep kind number; at = pos }) (pointOf run stack) (sym (ap (λ (m : Moved). m .number) d) ∙ z)
         in
         record {
           cells = l;
@@ -115,15 +115,15 @@ module _ {f : ℕ} {t : Table} {b : ℕ} {text stack : List ℕ} {run : Tally} {
           few = omega (arith, g .few, h .onward, n);
           passed = omega (arith, g .passed, h .onward);
           within = h .within;
-          rest = sym (operator-moves f t b lines (pointOf run stack) _ (h .lines) d z) ∙ g .rest;
+          rest = sym (operator-moves b f t lines (pointOf run stack) _ (h .lines) d z) ∙ g .rest;
         }
 
-  pub ends : length text ≤ at → finish t (placeOf lines (pointOf run stack)) ≡ checkLines f t b (linesOf text)
-  ends l = ap (checkFrom f t b (placeOf lines (pointOf run stack))) (sym (no-line text at l)) ∙ g .rest
+  pub ends : length text ≤ at → finish t (checkAt lines (pointOf run stack)) ≡ checkLines b f t (linesOf text)
+  ends l = ap (checkFrom b f t (checkAt lines (pointOf run stack))) (sym (no-line text at l)) ∙ g .rest
 
 -- The end of a plan, by the height of its stack.
-module _ (t : Table) (lines : ℕ) (run : Tally) where
-  pub ends-high : (run .height ≡ 0 → ⊥) → (stack : List ℕ) → finish t (placeOf lines (pointOf run stack)) ≡ refusal 14 lines
+module _ (t : Table) (lines : ℕ) (run : Progress) where
+  pub ends-high : (run .height ≡ 0 → ⊥) → (stack : List ℕ) → finish t (checkAt lines (pointOf run stack)) ≡ refusal 14 lines
   unfolding stackOf
   ends-high z stack = rw (high stack (run .height) z)
     where
@@ -131,7 +131,7 @@ module _ (t : Table) (lines : ℕ) (run : Tally) where
       high cells zero z = absurd (z refl)
       high cells (suc h) z = refl
 
-  pub ends-empty : run .height ≡ 0 → (stack : List ℕ) → finish t (placeOf lines (pointOf run stack))
+  pub ends-empty : run .height ≡ 0 → (stack : List ℕ) → finish t (checkAt lines (pointOf run stack))
       ≡ check (holds (goalFacts t) (run .facts)) 15 lines (accepted (run .cost) (run .operators) (run .steps))
   unfolding stackOf
   ends-empty z stack = rw z

@@ -9,7 +9,7 @@ use native.Mathlib.Decide.{decLt}
 use lib.Dec.{T}
 use lib.ListN.{length, take, drop, set, getD, length-append, length-map}
 use lib.Seq.{sets, take-suc, take-at, length-take-le, length-sets}
-use Rattle.rules.specs.Answers.{Answer, numberOf, check}
+use Rattle.basics.specs.Answers.{Answer, numberOf, check}
 use Rattle.rules.specs.Tables.{Table, actionCount, methodCount, method}
 use Rattle.rules.specs.Progression.{Step, act, mth, prefix, stays}
 use Rattle.rules.specs.Operators.{Operator, expand, expandAll, emitted, applies}
@@ -81,7 +81,7 @@ module _ (f : ℕ) (t : Table) where
       (sym (take-at (prefix f t k) (stays f t k) p e) ∙ ap (take p) (prefix-whole f t k))
 
 -- Prepared rows serve the expansion.
-pub prepared-steps : {f : ℕ} {t : Table} {b : ℕ} {ops cells : List ℕ} → Prepared f t b ops cells → StepsHeld f t cells
+pub prepared-steps : {f : ℕ} {t : Table} {b : ℕ} {ops cells : List ℕ} → Prepared b f t ops cells → StepsHeld f t cells
 prepared-steps r = record { room = r .cells-room; steps = λ k l. ap (λ (row : Row). row .steps) (r .methods k l) }
 
 -- What a method's row says, and what its steps come to.
@@ -132,8 +132,8 @@ known? : (t : Table) (x : Step) → Dec (Known t x)
 known? t (act k) = decLt k (actionCount t)
 known? t (mth k) = decLt k (methodCount t)
 
-emitted-known : (f : ℕ) (t : Table) (b : ℕ) (o : Operator) → T (emitted f t b o) → Known t (o .what)
-emitted-known f t b o h = go (known? t (o .what))
+emitted-known : (b f : ℕ) (t : Table) (o : Operator) → T (emitted b f t o) → Known t (o .what)
+emitted-known b f t o h = go (known? t (o .what))
   where
     go : Dec (Known t (o .what)) → Known t (o .what)
     go (yes l) = l
@@ -144,21 +144,21 @@ abbrev pub bytesOf : ℕ → Table → List plans.Line → List ℕ
 bytesOf f t ls = stepBytes (expandAll f t (opersOf ls))
 
 -- From a place of the text on: the lines pass, and their bytes, written from `end` on, have room and give the whole.
-pub record Expanding (f : ℕ) (t : Table) (b : ℕ) (text whole : List ℕ) (at end : ℕ) (out : List ℕ) : Type 0 where
+pub record Expanding (b f : ℕ) (t : Table) (text whole : List ℕ) (at end : ℕ) (out : List ℕ) : Type 0 where
   pub within : at ≤ length text
-  pub passes : (p : Place) × (numberOf (checkFrom f t b p (linesOf (drop at text))) ≡ 0)
+  pub passes : (p : Place) × (numberOf (checkFrom b f t p (linesOf (drop at text))) ≡ 0)
   pub room : end + length (bytesOf f t (linesOf (drop at text))) ≤ length out
   pub rest : sets out end (bytesOf f t (linesOf (drop at text))) ≡ whole
 
-pub expanding-begins : (f : ℕ) (t : Table) (b : ℕ) (text out : List ℕ) → numberOf (checkLines f t b (linesOf text)) ≡ 0
+pub expanding-begins : (b f : ℕ) (t : Table) (text out : List ℕ) → numberOf (checkLines b f t (linesOf text)) ≡ 0
     → length (bytesOf f t (linesOf text)) ≤ length out
-    → Expanding f t b text (sets out 0 (bytesOf f t (linesOf text))) 0 0 out
+    → Expanding b f t text (sets out 0 (bytesOf f t (linesOf text))) 0 0 out
 unfolding checkLines
-expanding-begins f t b text out h r = record { within = omega arith; passes = (_, h); room = omega arith; rest = refl }
+expanding-begins b f t text out h r = record { within = omega arith; passes = (_, h); room = omega arith; rest = refl }
 
-module _ {f : ℕ} {t : Table} {b : ℕ} {text whole : List ℕ} {at end : ℕ} {out : List ℕ} (g : Expanding f t b text whole at end out) where
-  passes-with : (ls : List plans.Line) → linesOf (drop at text) ≡ ls → numberOf (checkFrom f t b (g .passes .0) ls) ≡ 0
-  passes-with ls e = ap (λ (l : List plans.Line). numberOf (checkFrom f t b (g .passes .0) l)) (sym e) ∙ g .passes .1
+module _ {f : ℕ} {t : Table} {b : ℕ} {text whole : List ℕ} {at end : ℕ} {out : List ℕ} (g : Expanding b f t text whole at end out) where
+  passes-with : (ls : List plans.Line) → linesOf (drop at text) ≡ ls → numberOf (checkFrom b f t (g .passes .0) ls) ≡ 0
+  passes-with ls e = ap (λ (l : List plans.Line). numberOf (checkFrom b f t (g .passes .0) l)) (sym e) ∙ g .passes .1
 
   pub expanded : length text ≤ at → out ≡ whole
   unfolding stepBytes
@@ -167,7 +167,7 @@ module _ {f : ℕ} {t : Table} {b : ℕ} {text whole : List ℕ} {at end : ℕ} 
   pub never-shape : IsLine text at Shape → ⊥
   never-shape h = omega (arith, passes-with (other ∷ h .0) (h .1))
 
-  pub expanding-comment : {next : ℕ} → CommentLine text at next → Expanding f t b text whole next end out
+  pub expanding-comment : {next : ℕ} → CommentLine text at next → Expanding b f t text whole next end out
   expanding-comment {next} h =
       record {
         within = h .within;
@@ -181,16 +181,16 @@ module _ {f : ℕ} {t : Table} {b : ℕ} {text whole : List ℕ} {at end : ℕ} 
     abbrev lineOperator : ℕ → Operator
     lineOperator i = record { what = kindStep kind number; at = i }
 
-    tests : T (emitted f t b (lineOperator pos)) × (numberOf (checkFrom f t b (apply f t (g .passes .0) (lineOperator pos)) (linesOf (drop next text))) ≡ 0)
+    tests : T (emitted b f t (lineOperator pos)) × (numberOf (checkFrom b f t (apply f t (g .passes .0) (lineOperator pos)) (linesOf (drop next text))) ≡ 0)
     tests =
         let q =
-        passed (emitted f t b (lineOperator pos)) 11 (suc (g .passes .0 .lines)) _
+        passed (emitted b f t (lineOperator pos)) 11 (suc (g .passes .0 .lines)) _
         (passes-with (oper (lineOperator pos) ∷ linesOf (drop next text)) (h .lines))
         in
         (q .0, passed (applies f t (g .passes .0 .state) (lineOperator pos)) 12 (suc (g .passes .0 .lines)) _ (q .1) .1)
 
     pub operator-known : Known t (kindStep kind number)
-    operator-known = emitted-known f t b (lineOperator pos) (tests .0)
+    operator-known = emitted-known b f t (lineOperator pos) (tests .0)
 
     split : bytesOf f t (linesOf (drop at text)) ≡ stepBytes (expand f t (lineOperator 0)) ++ bytesOf f t (linesOf (drop next text))
     split = ap (bytesOf f t) (h .lines) ∙ bytes-append (expand f t (lineOperator 0)) (expandAll f t (opersOf (linesOf (drop next text))))
@@ -203,7 +203,7 @@ module _ {f : ℕ} {t : Table} {b : ℕ} {text whole : List ℕ} {at end : ℕ} 
     operator-room = omega (arith, g .room, split-length)
 
     pub expanding-operator : {after : ℕ} {new : List ℕ} → after ≡ end + length (stepBytes (expand f t (lineOperator 0)))
-        → new ≡ sets out end (stepBytes (expand f t (lineOperator 0))) → Expanding f t b text whole next after new
+        → new ≡ sets out end (stepBytes (expand f t (lineOperator 0))) → Expanding b f t text whole next after new
     expanding-operator {after} {new} a n =
         record {
           within = h .within;

@@ -19,23 +19,23 @@ method-index zero k a m h = absurd (h refl)
 method-index (suc n) k a m h = refl
 
 -- A row below the number of rows is that of an operator the table has.
-pub record Found (f : ℕ) (t : Table) (b : ℕ) (ops cells : List ℕ) (x : Step) (i : ℕ) : Type 0 where
+pub record RowFound (b f : ℕ) (t : Table) (ops cells : List ℕ) (x : Step) (i : ℕ) : Type 0 where
   pub known : Known t x
-  pub row : rowAt ops cells i ≡ rowOf f t b x
+  pub row : rowAt ops cells i ≡ rowOf b f t x
 
-module _ {f : ℕ} {t : Table} {b : ℕ} {ops cells : List ℕ} (p : Prepared f t b ops cells) (k : ℕ) where
+module _ {f : ℕ} {t : Table} {b : ℕ} {ops cells : List ℕ} (p : Prepared b f t ops cells) (k : ℕ) where
   action-found : (c : Bool) → ltb k (actionCount t) ≡ c → cond c k (actionCount t + methodCount t) < actionCount t + methodCount t
-      → Found f t b ops cells (act k) (cond c k (actionCount t + methodCount t))
+      → RowFound b f t ops cells (act k) (cond c k (actionCount t + methodCount t))
   action-found true e l = let h = ltb-true _ _ e in record { known = h; row = p .actions k h }
   action-found false e l = absurd (omega arith)
 
   method-found : (c : Bool) → ltb k (methodCount t) ≡ c → cond c (actionCount t + k) (actionCount t + methodCount t) < actionCount t + methodCount t
-      → Found f t b ops cells (mth k) (cond c (actionCount t + k) (actionCount t + methodCount t))
+      → RowFound b f t ops cells (mth k) (cond c (actionCount t + k) (actionCount t + methodCount t))
   method-found true e l = let h = ltb-true _ _ e in record { known = h; row = p .methods k h }
   method-found false e l = absurd (omega arith)
 
   pub row-found : (kind : ℕ) → rowIndex kind k (actionCount t) (methodCount t) < actionCount t + methodCount t
-      → Found f t b ops cells (kindStep kind k) (rowIndex kind k (actionCount t) (methodCount t))
+      → RowFound b f t ops cells (kindStep kind k) (rowIndex kind k (actionCount t) (methodCount t))
   unfolding rowIndex
   row-found zero l = action-found (ltb k (actionCount t)) refl l
   row-found (suc n) l = method-found (ltb k (methodCount t)) refl l

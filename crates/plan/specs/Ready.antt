@@ -12,11 +12,11 @@ use Rattle.rules.specs.Progression.{prefix}
 use Rattle.words.specs.Words.{tableOf, Held}
 use Rattle.rows.specs.Rows.{Prepared, RowOk}
 
-pub record Ready (f b : ℕ) (words ops cells : List ℕ) : Type 0 where
+pub record Ready (b f : ℕ) (words ops cells : List ℕ) : Type 0 where
   pub held : Held words
   pub low : 1 ≤ b
   pub high : b ≤ 64
-  pub rows : Prepared f (tableOf words) b ops cells
+  pub rows : Prepared b f (tableOf words) ops cells
   pub ok : (i : ℕ) → i < actionCount (tableOf words) + methodCount (tableOf words) → RowOk ops cells i
 
 -- What the expansion asks: each method's row holds its number of steps.

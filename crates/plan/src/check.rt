@@ -8,12 +8,12 @@ ghost use Rattle.rules.specs.Plans.{linesOf};
 ghost use Rattle.rules.specs.Checks.{verdictOf, finish, checkLines};
 ghost use Rattle.words.specs.Words.{tableOf, Held};
 ghost use Rattle.lines.specs.Lines.{kindStep};
-ghost use Rattle.run.specs.Steps.{documentStep, placeOf};
-ghost use Rattle.run.specs.Runs.{TallyOk, pointOf, turnedOf};
+ghost use Rattle.run.specs.Steps.{documentStep, checkAt};
+ghost use Rattle.run.specs.Runs.{ProgressOk, pointOf, turnedOf};
 ghost use Rattle.plan.specs.Ready.{Ready, rowIndex, Few};
 use lines::Line;
 use rules::Verdict;
-use run::Tally;
+use run::Progress;
 use run::Turned;
 
 // The row of an operator, and the number of rows where there is none.
@@ -36,21 +36,21 @@ pub fn row_index(kind: u64, number: u64, actions: u64, methods: u64) -> u64
 // One line's operator on the run.
 fn operate(
     words: &[u64],
-    form: u64,
     bound: u64,
+    form: u64,
     ops: &[u64],
     cells: &[u16],
-    t: Tally,
+    t: Progress,
     stack: &mut [u16; 72],
     kind: u64,
     number: u64,
     pos: u64,
 ) -> Turned
-    requires { ⌜ Ready form bound (now words) (now ops) (now cells) ⌝ }
-    requires { ⌜ (length (now stack) ≡ 72) × TallyOk t ⌝ }
+    requires { ⌜ Ready bound form (now words) (now ops) (now cells) ⌝ }
+    requires { ⌜ (length (now stack) ≡ 72) × ProgressOk t ⌝ }
     requires { ⌜ t .operators < 65535 ⌝ }
-    ensures { λ r. ⌜ turnedOf r (now (stack .exit)) ≡ documentStep form (tableOf (now (words .entry))) bound (record { what = kindStep kind number; at = pos }) (pointOf t (now (stack .entry))) ⌝ }
-    ensures { λ r. ⌜ (length (now (stack .exit)) ≡ 72) × TallyOk (r .tally) ⌝ }
+    ensures { λ r. ⌜ turnedOf r (now (stack .exit)) ≡ documentStep bound form (tableOf (now (words .entry))) (record { what = kindStep kind number; at = pos }) (pointOf t (now (stack .entry))) ⌝ }
+    ensures { λ r. ⌜ (length (now (stack .exit)) ≡ 72) × ProgressOk (r .progress) ⌝ }
 {
     let actions = words::action_count(words);
     let methods = words::method_count(words) as u64;
@@ -58,18 +58,18 @@ fn operate(
     if actions + methods <= index {
         return Turned {
             number: 12,
-            tally: t,
+            progress: t,
         };
     }
     run::turn(t, stack, ops, cells, index as usize, pos)
 }
 
 // Before the first line: the starting task alone on the stack, which stands in cells of its own.
-fn begun(words: &[u64]) -> Tally
+fn begun(words: &[u64]) -> Progress
     requires { ⌜ Held (now words) ⌝ }
     ensures { λ r. ⌜ r ≡ record { facts = startFacts (tableOf (now (words .entry))); height = 1; operators = 0; steps = 0; cost = 0 } ⌝ }
 {
-    Tally {
+    Progress {
         facts: words::start_facts(words),
         height: 1,
         operators: 0,
@@ -79,10 +79,10 @@ fn begun(words: &[u64]) -> Tally
 }
 
 // The end of a plan of so many lines.
-fn conclude(words: &[u64], t: Tally, lines: u64) -> Verdict
-    requires { ⌜ Held (now words) × TallyOk t ⌝ }
+fn conclude(words: &[u64], t: Progress, lines: u64) -> Verdict
+    requires { ⌜ Held (now words) × ProgressOk t ⌝ }
     ensures { λ r. ⌜ Few r ⌝ }
-    ensures { λ r. ⌜ ((cells : List ℕ) → verdictOf r ≡ finish (tableOf (now (words .entry))) (placeOf lines (pointOf t cells))) ⌝ }
+    ensures { λ r. ⌜ ((cells : List ℕ) → verdictOf r ≡ finish (tableOf (now (words .entry))) (checkAt lines (pointOf t cells))) ⌝ }
 {
     if t.height != 0 {
         return Verdict::Refused(14, lines);
@@ -95,15 +95,15 @@ fn conclude(words: &[u64], t: Tally, lines: u64) -> Verdict
 
 pub fn check(
     words: &[u64],
-    form: u64,
     bound: u64,
+    form: u64,
     ops: &[u64],
     cells: &[u16],
     text: &[u8],
 ) -> Verdict
-    requires { ⌜ Ready form bound (now words) (now ops) (now cells) × (length (now text) ≤ 65536) ⌝ }
+    requires { ⌜ Ready bound form (now words) (now ops) (now cells) × (length (now text) ≤ 65536) ⌝ }
     ensures { λ r. ⌜ Few r ⌝ }
-    ensures { λ r. ⌜ verdictOf r ≡ checkLines form (tableOf (now (words .entry))) bound (linesOf (now (text .entry))) ⌝ }
+    ensures { λ r. ⌜ verdictOf r ≡ checkLines bound form (tableOf (now (words .entry))) (linesOf (now (text .entry))) ⌝ }
 {
     let mut stack = [0u16; 72];
     stack[0] = words::start_task(words) as u16;
@@ -122,8 +122,8 @@ pub fn check(
             Line::Op(kind, number, pos, rest) => {
                 let m = operate(
                     words,
-                    form,
                     bound,
+                    form,
                     ops,
                     cells,
                     run,
@@ -135,7 +135,7 @@ pub fn check(
                 if m.number != 0 {
                     return Verdict::Refused(m.number, lines);
                 }
-                let t = m.tally;
+                let t = m.progress;
                 run = t;
                 at = rest;
             }

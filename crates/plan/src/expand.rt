@@ -4,7 +4,7 @@ ghost use mathlib.Core.List.{[], _∷_, map};
 ghost use Prim.Native.Nat.{_+_, _*_, _/_, _%_, _<_, _≤_};
 ghost use lib.ListN.{length, take};
 ghost use lib.Seq.{sets};
-ghost use Rattle.rules.specs.Answers.{numberOf};
+ghost use Rattle.basics.specs.Answers.{numberOf};
 ghost use Rattle.rules.specs.Tables.{methodCount, method};
 ghost use Rattle.rules.specs.Progression.{act};
 ghost use Rattle.rules.specs.Operators.{expand, expandAll};
@@ -68,9 +68,9 @@ fn put_steps(
 }
 
 // The steps of all lines, from the start of the bytes on.
-pub fn expand(words: &[u64], form: u64, bound: u64, cells: &[u16], text: &[u8], out: &mut [u8])
+pub fn expand(words: &[u64], bound: u64, form: u64, cells: &[u16], text: &[u8], out: &mut [u8])
     requires { ⌜ Held (now words) × StepsHeld form (tableOf (now words)) (now cells) × (length (now text) ≤ 65536) ⌝ }
-    requires { ⌜ numberOf (checkLines form (tableOf (now words)) bound (linesOf (now text))) ≡ 0 ⌝ }
+    requires { ⌜ numberOf (checkLines bound form (tableOf (now words)) (linesOf (now text))) ≡ 0 ⌝ }
     requires { ⌜ length (stepBytes (expandAll form (tableOf (now words)) (opersOf (linesOf (now text))))) ≤ length (now out) ⌝ }
     ensures { λ _. ⌜ now (out .exit) ≡ sets (now (out .entry)) 0 (stepBytes (expandAll form (tableOf (now (words .entry))) (opersOf (linesOf (now (text .entry)))))) ⌝ }
 {

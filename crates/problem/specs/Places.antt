@@ -9,13 +9,13 @@ use Rattle.problem.specs.declared.Found.{Found}
 use Rattle.problem.specs.declared.Found.the-variants.{Operator as At, Past}
 
 -- Operator n begins with step i, and p positions of that step come before it.
-pub record IsPlace (f : ℕ) (t : Table) (b n i p : ℕ) : Type 0 where
+pub record IsPlace (b f : ℕ) (t : Table) (n i p : ℕ) : Type 0 where
   pub step : i < actionCount t + methodCount t
-  pub position : p < positions f t b (stepAt t i)
-  pub within : n < length (operatorsOf f t b)
-  pub operator : (d : Operator) → getD (operatorsOf f t b) n d ≡ record { what = stepAt t i; at = suc p }
+  pub position : p < positions b f t (stepAt t i)
+  pub within : n < length (operatorsOf b f t)
+  pub operator : (d : Operator) → getD (operatorsOf b f t) n d ≡ record { what = stepAt t i; at = suc p }
 
 -- What the code's answer says of operator n.
-abbrev pub IsFound : ℕ → Table → ℕ → ℕ → Found → Type 0
-IsFound f t b n (At i p) = IsPlace f t b n i p
-IsFound f t b n (Past over) = n ≡ length (operatorsOf f t b) + over
+abbrev pub IsFound : ℕ → ℕ → Table → ℕ → Found → Type 0
+IsFound b f t n (At i p) = IsPlace b f t n i p
+IsFound b f t n (Past over) = n ≡ length (operatorsOf b f t) + over

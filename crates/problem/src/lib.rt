@@ -8,12 +8,12 @@ ghost use Rattle.words.specs.Words.{tableOf, Held};
 ghost use Rattle.problem.specs.Places.{IsFound};
 
 // How many sections there are: one, one for each variable, one, one for each operator, and one.
-pub fn section_count(words: &[u64], form: u64, bound: u64) -> u64
+pub fn section_count(words: &[u64], bound: u64, form: u64) -> u64
     requires { ⌜ Held (now words) × (bound ≤ 64) ⌝ }
-    ensures { λ r. ⌜ r ≡ length (sectionsOf form (tableOf (now (words .entry))) bound) ⌝ }
+    ensures { λ r. ⌜ r ≡ length (sectionsOf bound form (tableOf (now (words .entry)))) ⌝ }
 {
     let variables = words::fact_count(words) + 1 + bound;
-    let operators = operators::operator_count(words, form, bound);
+    let operators = operators::operator_count(words, bound, form);
     variables + operators + 3
 }
 
@@ -24,16 +24,16 @@ pub enum Found {
 }
 
 // Operator n of those of the methods.
-fn method_at(words: &[u64], form: u64, bound: u64, n: u64) -> Found
+fn method_at(words: &[u64], bound: u64, form: u64, n: u64) -> Found
     requires { ⌜ Held (now words) × (bound ≤ 64) ⌝ }
-    ensures { λ r. ⌜ IsFound form (tableOf (now (words .entry))) bound (actionCount (tableOf (now (words .entry))) * bound + n) r ⌝ }
+    ensures { λ r. ⌜ IsFound bound form (tableOf (now (words .entry))) (actionCount (tableOf (now (words .entry))) * bound + n) r ⌝ }
 {
     let first = words::action_count(words) as usize;
     let methods = words::method_count(words);
     let mut left = n;
     let mut k: usize = 0;
     while k < methods {
-        let count = operators::method_positions(words, form, bound, k);
+        let count = operators::method_positions(words, bound, form, k);
         if left < count {
             let step = first + k;
             return Found::Operator(step, left as usize);
@@ -45,9 +45,9 @@ fn method_at(words: &[u64], form: u64, bound: u64, n: u64) -> Found
 }
 
 // Operator n of all.
-pub fn find(words: &[u64], form: u64, bound: u64, n: u64) -> Found
+pub fn find(words: &[u64], bound: u64, form: u64, n: u64) -> Found
     requires { ⌜ Held (now words) × (bound ≤ 64) × (1 ≤ bound) ⌝ }
-    ensures { λ r. ⌜ IsFound form (tableOf (now (words .entry))) bound n r ⌝ }
+    ensures { λ r. ⌜ IsFound bound form (tableOf (now (words .entry))) n r ⌝ }
 {
     let actions = words::action_count(words) * bound;
     if n < actions {
@@ -55,5 +55,5 @@ pub fn find(words: &[u64], form: u64, bound: u64, n: u64) -> Found
         let position = n % bound;
         return Found::Operator(step as usize, position as usize);
     }
-    method_at(words, form, bound, n - actions)
+    method_at(words, bound, form, n - actions)
 }

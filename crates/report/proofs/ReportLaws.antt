@@ -2,7 +2,7 @@
 use Prim.Native.Nat.{ℕ}
 use mathlib.Core.Path.{_≡_}
 use mathlib.Core.List.{List, [], _∷_, _++_, append-assoc}
-use Rattle.rules.specs.Texts.{line}
+use Rattle.basics.specs.Texts.{line}
 
 spaced : (s a x y n : List ℕ) → a ++ (s ++ (x ++ (s ++ (y ++ n)))) ≡ a ++ (s ++ x) ++ (s ++ y) ++ n
 spaced s a x y n = simp append-assoc

@@ -1,9 +1,9 @@
 -- What a program writes of an answer: "`accepted COST OPERATORS STEPS` or `refused NUMBER PLACE`, one line".
 use Prim.Native.Nat.{ℕ}
 use mathlib.Core.List.{List, [], _∷_}
-use Rattle.rules.specs.Answers.{Answer, answer, refusal}
+use Rattle.basics.specs.Answers.{Answer, answer, refusal}
 use Rattle.rules.specs.Checks.{Tally}
-use Rattle.rules.specs.Texts.{bytes, digits, line}
+use Rattle.basics.specs.Texts.{bytes, digits, line}
 
 unfoldable pub lineOf : Answer Tally → List ℕ
 lineOf (answer y) = line (bytes "accepted" ∷ digits (y .cost) ∷ digits (y .operators) ∷ digits (y .steps) ∷ [])

@@ -19,7 +19,7 @@ use Rattle.words.specs.Words.{actionAt}
 use Rattle.rows.specs.Stacks.{stackOf}
 use Rattle.rows.specs.Rows.{Row, rowOf, rowAt, Prepared, RowOk}
 use Rattle.laws.specs.Steps.{stepAt}
-use Rattle.rows.specs.Stores.{PreparedTo, Stored, Ended, Left}
+use Rattle.rows.specs.Stores.{PreparedTo, Stored, Ended, RestStored}
 use Rattle.laws.proofs.StepNumbers.{step-action, step-method, by-step}
 use Rattle.laws.proofs.StepSizes.{stay-length, leaves-few, company-few, cost-low, height-low}
 use Rattle.rows.proofs.StackLaws.{stack-height, stack-kept}
@@ -59,7 +59,7 @@ pub stored : (i : ℕ) (x : Row) (words words′ cells cells₁ cells′ : List 
     → take (4 * i) words′ ≡ take (4 * i) words
     → actionAt words′ (4 * i) ≡ setsOf x
     → length (x .rest) ≤ 8
-    → Left (12 * i) (x .rest) cells cells₁
+    → RestStored (12 * i) (x .rest) cells cells₁
     → Ended (12 * i) (x .task) (length (x .rest)) (x .steps) (x .last) cells₁ cells′
     → Stored i x words cells words′ cells′
 stored i x words words′ cells cells₁ cells′ p a s l e =
@@ -74,22 +74,22 @@ stored i x words words′ cells cells₁ cells′ p a s l e =
     }
 
 -- The row of an action: nothing is left.
-pub action-stored : (f : ℕ) (t : Table) (b k i : ℕ) (words words′ cells cells′ : List ℕ) (j : Join) (n : ℕ)
+pub action-stored : (b f : ℕ) (t : Table) (k i : ℕ) (words words′ cells cells′ : List ℕ) (j : Join) (n : ℕ)
     → k < actionCount t
     → j ≡ joinOne noJoin (action t k)
     → n ≡ action t k .cost
     → take (4 * i) words′ ≡ take (4 * i) words
     → actionAt words′ (4 * i) ≡ joinedSets j n
     → Ended (12 * i) k 0 1 b cells cells′
-    → Stored i (rowOf f t b (act k)) words cells words′ cells′
+    → Stored i (rowOf b f t (act k)) words cells words′ cells′
 unfolding joined joinOf joinFrom stackOf
-action-stored f t b k i words words′ cells cells′ j n l q u p e x =
+action-stored b f t k i words words′ cells cells′ j n l q u p e x =
     let m : n ≡ action t k .cost + 0 = omega arith in
-    stored i (rowOf f t b (act k)) words words′ cells cells cells′ p (e ∙ (λ i. joinedSets (q i) (m i))) (omega arith) (record { kept = refl; stack = refl })
-    (ended-as refl refl refl (sym (action-positions f t b k l)) x)
+    stored i (rowOf b f t (act k)) words words′ cells cells cells′ p (e ∙ (λ i. joinedSets (q i) (m i))) (omega arith) (record { kept = refl; stack = refl })
+    (ended-as refl refl refl (sym (action-positions b f t k l)) x)
 
 -- The row of a method: p of its subtasks are taken with it.
-pub method-stored : (f : ℕ) (t : Table) (b k i : ℕ) (words words′ cells cells₁ cells′ : List ℕ) (j : Join) (n p x r m top : ℕ)
+pub method-stored : (b f : ℕ) (t : Table) (k i : ℕ) (words words′ cells cells₁ cells′ : List ℕ) (j : Join) (n p x r m top : ℕ)
     → Valid t
     → k < methodCount t
     → j ≡ joined f t (mth k)
@@ -101,19 +101,19 @@ pub method-stored : (f : ℕ) (t : Table) (b k i : ℕ) (words words′ cells ce
     → top ≡ cond (j .dead) 0 (highest b r)
     → take (4 * i) words′ ≡ take (4 * i) words
     → actionAt words′ (4 * i) ≡ joinedSets j n
-    → Left (12 * i) (drop p (method t k .subs)) cells cells₁
+    → RestStored (12 * i) (drop p (method t k .subs)) cells cells₁
     → Ended (12 * i) x r m top cells₁ cells′
-    → Stored i (rowOf f t b (mth k)) words cells words′ cells′
-method-stored f t b k i words words′ cells cells₁ cells′ j n p x r m top v l ej en ep ex er em et w e left x′ =
+    → Stored i (rowOf b f t (mth k)) words cells words′ cells′
+method-stored b f t k i words words′ cells cells₁ cells′ j n p x r m top v l ej en ep ex er em et w e left x′ =
     let d = stay-length f t k in
     let r′ : r ≡ length (stays f t k) = er ∙ ap (λ (q : ℕ). length (method t k .subs) - q) ep ∙ sym d in
     let m′ : m ≡ suc (length (prefix f t k)) = omega arith in
     let n′ : n ≡ totalCost t (mth k ∷ map act (prefix f t k)) = omega (arith, en) in
-    let t′ : top ≡ positions f t b (mth k) =
-    et ∙ (λ i. cond (ej i .dead) 0 (highest b ((r′ ∙ d) i))) ∙ sym (method-positions f t b k l) in
-    stored i (rowOf f t b (mth k)) words words′ cells cells₁ cells′ w (e ∙ (λ i. joinedSets (ej i) (n′ i)))
+    let t′ : top ≡ positions b f t (mth k) =
+    et ∙ (λ i. cond (ej i .dead) 0 (highest b ((r′ ∙ d) i))) ∙ sym (method-positions b f t k l) in
+    stored i (rowOf b f t (mth k)) words words′ cells cells₁ cells′ w (e ∙ (λ i. joinedSets (ej i) (n′ i)))
     (omega (arith, d, v .method k l .count))
-    (subst (λ (q : ℕ). Left (12 * i) (drop q (method t k .subs)) cells cells₁) ep left)
+    (subst (λ (q : ℕ). RestStored (12 * i) (drop q (method t k .subs)) cells cells₁) ep left)
     (ended-as ex r′ m′ t′ x′)
 
 pub last-low : (d : Bool) (b r : ℕ) → cond d 0 (highest b r) ≤ b
@@ -148,34 +148,34 @@ pub stay-is : (words cells : List ℕ) (i : ℕ) (x : Row) → rowAt words cells
 stay-is words cells i x e = sym (stack-height (drop (12 * i) cells) (getD cells (12 * i + 9) 0)) ∙ ap (λ (y : Row). length (y .rest)) e
 
 -- One row more.
-pub prepared-more : (f : ℕ) (t : Table) (b i : ℕ) (words cells words′ cells′ : List ℕ) → Valid t → i < actionCount t + methodCount t
-    → PreparedTo f t b i words cells → Stored i (rowOf f t b (stepAt t i)) words cells words′ cells′ → PreparedTo f t b (i + 1) words′ cells′
-prepared-more f t b i words cells words′ cells′ v l p s j m = go (decLe i j)
+pub prepared-more : (b f : ℕ) (t : Table) (i : ℕ) (words cells words′ cells′ : List ℕ) → Valid t → i < actionCount t + methodCount t
+    → PreparedTo b f t i words cells → Stored i (rowOf b f t (stepAt t i)) words cells words′ cells′ → PreparedTo b f t (i + 1) words′ cells′
+prepared-more b f t i words cells words′ cells′ v l p s j m = go (decLe i j)
   where
-    go : Dec (i ≤ j) → rowAt words′ cells′ j ≡ rowOf f t b (stepAt t j)
-    go (yes h) = let e : i ≡ j = omega arith in subst (λ (n : ℕ). rowAt words′ cells′ n ≡ rowOf f t b (stepAt t n)) e (s .row)
+    go : Dec (i ≤ j) → rowAt words′ cells′ j ≡ rowOf b f t (stepAt t j)
+    go (yes h) = let e : i ≡ j = omega arith in subst (λ (n : ℕ). rowAt words′ cells′ n ≡ rowOf b f t (stepAt t n)) e (s .row)
     go (no h) =
         let q = p j (omega arith) in
-        let n = stay-is words cells j (rowOf f t b (stepAt t j)) q in
+        let n = stay-is words cells j (rowOf b f t (stepAt t j)) q in
         row-kept words cells words′ cells′ i j (omega arith) (s .words-kept) (s .cells-kept) (omega (arith, n, leaves-few f t v j (omega arith))) ∙ q
 
-pub prepared-all : (f : ℕ) (t : Table) (b : ℕ) (words cells : List ℕ) → Valid t → 3068 ≤ length words → 9204 ≤ length cells
-    → PreparedTo f t b (actionCount t + methodCount t) words cells → Prepared f t b words cells
-prepared-all f t b words cells v w c p =
+pub prepared-all : (b f : ℕ) (t : Table) (words cells : List ℕ) → Valid t → 3068 ≤ length words → 9204 ≤ length cells
+    → PreparedTo b f t (actionCount t + methodCount t) words cells → Prepared b f t words cells
+prepared-all b f t words cells v w c p =
     record {
       words-room = omega (arith, v .head .actions, v .head .methods);
       cells-room = omega (arith, v .head .actions, v .head .methods);
-      actions = λ k l. p k (omega arith) ∙ ap (rowOf f t b) (step-action t k l);
-      methods = λ k l. p (actionCount t + k) (omega arith) ∙ ap (rowOf f t b) (step-method t k);
+      actions = λ k l. p k (omega arith) ∙ ap (rowOf b f t) (step-action t k l);
+      methods = λ k l. p (actionCount t + k) (omega arith) ∙ ap (rowOf b f t) (step-method t k);
     }
 
 -- ---- what a step asks of a row
 
-pub row-ok : {f : ℕ} {t : Table} {b : ℕ} {ops cells : List ℕ} → Valid t → b ≤ 64 → Prepared f t b ops cells
+pub row-ok : {f : ℕ} {t : Table} {b : ℕ} {ops cells : List ℕ} → Valid t → b ≤ 64 → Prepared b f t ops cells
     → (i : ℕ) → i < actionCount t + methodCount t → RowOk ops cells i
 row-ok {f} {t} {b} {ops} {cells} v h p i l =
-    let e = by-step t (λ n x. rowAt ops cells n ≡ rowOf f t b x) i l (p .actions) (p .methods) in
-    let stay = stay-is ops cells i (rowOf f t b (stepAt t i)) e in
+    let e = by-step t (λ n x. rowAt ops cells n ≡ rowOf b f t x) i l (p .actions) (p .methods) in
+    let stay = stay-is ops cells i (rowOf b f t (stepAt t i)) e in
     record {
       words = omega (arith, p .words-room);
       room = omega (arith, p .cells-room);

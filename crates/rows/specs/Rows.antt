@@ -19,8 +19,8 @@ pub record Row : Type 0 where
   pub rest : List ℕ
 
 -- The operators of a step, as the document has them.
-abbrev pub rowOf : ℕ → Table → ℕ → Step → Row
-rowOf f t b x =
+abbrev pub rowOf : ℕ → ℕ → Table → Step → Row
+rowOf b f t x =
     record {
       needs = joined f t x .needs;
       adds = joined f t x .adds;
@@ -28,7 +28,7 @@ rowOf f t b x =
       cost = totalCost t (x ∷ map act (company f t x));
       task = taskOf t x;
       steps = suc (length (company f t x));
-      last = positions f t b x;
+      last = positions b f t x;
       rest = leaves f t x;
     }
 
@@ -48,11 +48,11 @@ rowAt words cells i =
     }
 
 -- The rows of all operators of a table: actions first, then methods.
-pub record Prepared (f : ℕ) (t : Table) (b : ℕ) (words cells : List ℕ) : Type 0 where
+pub record Prepared (b f : ℕ) (t : Table) (words cells : List ℕ) : Type 0 where
   pub words-room : 4 * (actionCount t + methodCount t) ≤ length words
   pub cells-room : 12 * (actionCount t + methodCount t) ≤ length cells
-  pub actions : (k : ℕ) → k < actionCount t → rowAt words cells k ≡ rowOf f t b (act k)
-  pub methods : (k : ℕ) → k < methodCount t → rowAt words cells (actionCount t + k) ≡ rowOf f t b (mth k)
+  pub actions : (k : ℕ) → k < actionCount t → rowAt words cells k ≡ rowOf b f t (act k)
+  pub methods : (k : ℕ) → k < methodCount t → rowAt words cells (actionCount t + k) ≡ rowOf b f t (mth k)
 
 -- What a step by row i asks of it.
 pub record RowOk (ops cells : List ℕ) (i : ℕ) : Type 0 where

@@ -9,11 +9,11 @@ use Rattle.rows.specs.Stacks.{stackOf}
 use Rattle.rows.specs.Rows.{Row, rowOf, rowAt}
 
 -- The first n rows are prepared.
-abbrev pub PreparedTo : ℕ → Table → ℕ → ℕ → List ℕ → List ℕ → Type 0
-PreparedTo f t b n words cells = (i : ℕ) → i < n → rowAt words cells i ≡ rowOf f t b (stepAt t i)
+abbrev pub PreparedTo : ℕ → ℕ → Table → ℕ → List ℕ → List ℕ → Type 0
+PreparedTo b f t n words cells = (i : ℕ) → i < n → rowAt words cells i ≡ rowOf b f t (stepAt t i)
 
--- Room for n rows.
-pub record Room (n : ℕ) (words cells : List ℕ) : Type 0 where
+-- RowsFit for n rows.
+pub record RowsFit (n : ℕ) (words cells : List ℕ) : Type 0 where
   pub in-words : 4 * n ≤ length words
   pub in-cells : 12 * n ≤ length cells
 
@@ -32,6 +32,6 @@ pub record Ended (c x r n top : ℕ) (cells cells′ : List ℕ) : Type 0 where
   pub last : getD cells′ (c + 11) 0 ≡ top
 
 -- The tasks are stored from cell c on, the last first, and all before them kept.
-pub record Left (c : ℕ) (tasks cells cells′ : List ℕ) : Type 0 where
+pub record RestStored (c : ℕ) (tasks cells cells′ : List ℕ) : Type 0 where
   pub kept : take c cells′ ≡ take c cells
   pub stack : stackOf (drop c cells′) (length tasks) ≡ tasks

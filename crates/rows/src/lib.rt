@@ -8,7 +8,7 @@ ghost use Rattle.rules.specs.Progression.{act, mth, prefix, totalCost};
 ghost use Rattle.laws.specs.Steps.{stepAt};
 ghost use Rattle.words.specs.Words.{tableOf, Held};
 ghost use Rattle.rows.specs.Rows.{rowOf, rowAt, Prepared};
-ghost use Rattle.rows.specs.Stores.{PreparedTo, Room, Stored, Ended, Left};
+ghost use Rattle.rows.specs.Stores.{PreparedTo, RowsFit, Stored, Ended, RestStored};
 use words::Action;
 
 // The last four cells of the row that begins at cell c.
@@ -25,7 +25,7 @@ fn put_tail(cells: &mut [u16], c: usize, task: u16, stay: u16, steps: u16, last:
 // The subtasks of method k from p on in the cells from c on, the last first.
 fn put_rest(words: &[u64], k: usize, p: usize, cells: &mut [u16], c: usize)
     requires { ⌜ Held (now words) × (k < methodCount (tableOf (now words))) × (p ≤ length (method (tableOf (now words)) k .subs)) × (c + 8 ≤ length (now cells)) ⌝ }
-    ensures { λ _. ⌜ Left c (drop p (method (tableOf (now (words .entry))) k .subs)) (now (cells .entry)) (now (cells .exit)) ⌝ }
+    ensures { λ _. ⌜ RestStored c (drop p (method (tableOf (now (words .entry))) k .subs)) (now (cells .entry)) (now (cells .exit)) ⌝ }
 {
     let n = words::width_of(words, k);
     let stay = n - p;
@@ -55,8 +55,8 @@ fn prefix_cost(words: &[u64], form: u64, k: usize, n: usize) -> u64
 
 // Action k as row i, in both forms.
 fn action_row(words: &[u64], bound: u64, k: usize, i: usize, ops: &mut [u64], cells: &mut [u16])
-    requires { ⌜ Held (now words) × (bound ≤ 64) × (k < actionCount (tableOf (now words))) × (i < 767) × Room (i + 1) (now ops) (now cells) ⌝ }
-    ensures { λ _. ⌜ ((f : ℕ) → Stored i (rowOf f (tableOf (now (words .entry))) bound (act k)) (now (ops .entry)) (now (cells .entry)) (now (ops .exit)) (now (cells .exit))) ⌝ }
+    requires { ⌜ Held (now words) × (bound ≤ 64) × (k < actionCount (tableOf (now words))) × (i < 767) × RowsFit (i + 1) (now ops) (now cells) ⌝ }
+    ensures { λ _. ⌜ ((f : ℕ) → Stored i (rowOf bound f (tableOf (now (words .entry))) (act k)) (now (ops .entry)) (now (cells .entry)) (now (ops .exit)) (now (cells .exit))) ⌝ }
 {
     let a = words::action_at(words, k);
     let join = facts::join_one(facts::no_join(), a);
@@ -73,15 +73,15 @@ fn action_row(words: &[u64], bound: u64, k: usize, i: usize, ops: &mut [u64], ce
 // Method k as row i.
 fn method_row(
     words: &[u64],
-    form: u64,
     bound: u64,
+    form: u64,
     k: usize,
     i: usize,
     ops: &mut [u64],
     cells: &mut [u16],
 )
-    requires { ⌜ Held (now words) × (bound ≤ 64) × (k < methodCount (tableOf (now words))) × (i < 767) × Room (i + 1) (now ops) (now cells) ⌝ }
-    ensures { λ _. ⌜ Stored i (rowOf form (tableOf (now (words .entry))) bound (mth k)) (now (ops .entry)) (now (cells .entry)) (now (ops .exit)) (now (cells .exit)) ⌝ }
+    requires { ⌜ Held (now words) × (bound ≤ 64) × (k < methodCount (tableOf (now words))) × (i < 767) × RowsFit (i + 1) (now ops) (now cells) ⌝ }
+    ensures { λ _. ⌜ Stored i (rowOf bound form (tableOf (now (words .entry))) (mth k)) (now (ops .entry)) (now (cells .entry)) (now (ops .exit)) (now (cells .exit)) ⌝ }
 {
     let prefix = operators::prefix_of(words, form, k);
     let join = prefix.join;
@@ -109,8 +109,8 @@ fn method_row(
 
 // The rows of the actions.
 fn action_rows(words: &[u64], bound: u64, ops: &mut [u64], cells: &mut [u16])
-    requires { ⌜ Held (now words) × (bound ≤ 64) × Room 767 (now ops) (now cells) ⌝ }
-    ensures { λ _. ⌜ ((f : ℕ) → PreparedTo f (tableOf (now (words .entry))) bound (actionCount (tableOf (now (words .entry)))) (now (ops .exit)) (now (cells .exit))) ⌝ }
+    requires { ⌜ Held (now words) × (bound ≤ 64) × RowsFit 767 (now ops) (now cells) ⌝ }
+    ensures { λ _. ⌜ ((f : ℕ) → PreparedTo bound f (tableOf (now (words .entry))) (actionCount (tableOf (now (words .entry)))) (now (ops .exit)) (now (cells .exit))) ⌝ }
 {
     let n = words::action_count(words) as usize;
     let mut k: usize = 0;
@@ -121,23 +121,23 @@ fn action_rows(words: &[u64], bound: u64, ops: &mut [u64], cells: &mut [u16])
 }
 
 // The rows of the methods, after those of the actions.
-fn method_rows(words: &[u64], form: u64, bound: u64, ops: &mut [u64], cells: &mut [u16])
-    requires { ⌜ Held (now words) × (bound ≤ 64) × Room 767 (now ops) (now cells) × PreparedTo form (tableOf (now words)) bound (actionCount (tableOf (now words))) (now ops) (now cells) ⌝ }
-    ensures { λ _. ⌜ PreparedTo form (tableOf (now (words .entry))) bound (actionCount (tableOf (now (words .entry))) + methodCount (tableOf (now (words .entry)))) (now (ops .exit)) (now (cells .exit)) ⌝ }
+fn method_rows(words: &[u64], bound: u64, form: u64, ops: &mut [u64], cells: &mut [u16])
+    requires { ⌜ Held (now words) × (bound ≤ 64) × RowsFit 767 (now ops) (now cells) × PreparedTo bound form (tableOf (now words)) (actionCount (tableOf (now words))) (now ops) (now cells) ⌝ }
+    ensures { λ _. ⌜ PreparedTo bound form (tableOf (now (words .entry))) (actionCount (tableOf (now (words .entry))) + methodCount (tableOf (now (words .entry)))) (now (ops .exit)) (now (cells .exit)) ⌝ }
 {
     let first = words::action_count(words) as usize;
     let n = words::method_count(words);
     let mut k: usize = 0;
     while k < n {
-        method_row(words, form, bound, k, first + k, ops, cells);
+        method_row(words, bound, form, k, first + k, ops, cells);
         k += 1;
     }
 }
 
 // Step i alone, as row 0.
-pub fn one_row(words: &[u64], form: u64, bound: u64, i: usize, ops: &mut [u64], cells: &mut [u16])
-    requires { ⌜ Held (now words) × (bound ≤ 64) × (i < actionCount (tableOf (now words)) + methodCount (tableOf (now words))) × Room 1 (now ops) (now cells) ⌝ }
-    ensures { λ _. ⌜ rowAt (now (ops .exit)) (now (cells .exit)) 0 ≡ rowOf form (tableOf (now (words .entry))) bound (stepAt (tableOf (now (words .entry))) i) ⌝ }
+pub fn one_row(words: &[u64], bound: u64, form: u64, i: usize, ops: &mut [u64], cells: &mut [u16])
+    requires { ⌜ Held (now words) × (bound ≤ 64) × (i < actionCount (tableOf (now words)) + methodCount (tableOf (now words))) × RowsFit 1 (now ops) (now cells) ⌝ }
+    ensures { λ _. ⌜ rowAt (now (ops .exit)) (now (cells .exit)) 0 ≡ rowOf bound form (tableOf (now (words .entry))) (stepAt (tableOf (now (words .entry))) i) ⌝ }
     ensures { λ _. ⌜ (length (now (ops .exit)) ≡ length (now (ops .entry))) × (length (now (cells .exit)) ≡ length (now (cells .entry))) ⌝ }
 {
     let first = words::action_count(words) as usize;
@@ -145,14 +145,14 @@ pub fn one_row(words: &[u64], form: u64, bound: u64, i: usize, ops: &mut [u64], 
         action_row(words, bound, i, 0, ops, cells);
         return;
     }
-    method_row(words, form, bound, i - first, 0, ops, cells);
+    method_row(words, bound, form, i - first, 0, ops, cells);
 }
 
 // All rows, one after the other: 767 at most, of four words and twelve cells each.
-pub fn prepare(words: &[u64], form: u64, bound: u64, ops: &mut [u64], cells: &mut [u16])
+pub fn prepare(words: &[u64], bound: u64, form: u64, ops: &mut [u64], cells: &mut [u16])
     requires { ⌜ Held (now words) × (bound ≤ 64) × (3068 ≤ length (now ops)) × (9204 ≤ length (now cells)) ⌝ }
-    ensures { λ _. ⌜ Prepared form (tableOf (now (words .entry))) bound (now (ops .exit)) (now (cells .exit)) ⌝ }
+    ensures { λ _. ⌜ Prepared bound form (tableOf (now (words .entry))) (now (ops .exit)) (now (cells .exit)) ⌝ }
 {
     action_rows(words, bound, ops, cells);
-    method_rows(words, form, bound, ops, cells);
+    method_rows(words, bound, form, ops, cells);
 }

@@ -3,9 +3,11 @@ use Prim.Native.Nat.{ℕ, zero, suc, _+_, _/_, _%_}
 use mathlib.Core.Bool.{cond}
 use mathlib.Core.List.{List, [], _∷_}
 use lib.ListN.{length}
+use Rattle.rules.specs.Limits.{methodWords}
+use Rattle.rules.specs.Reasons.{lineShape, notEmitted, notApplicable, stackNotEmpty, goalMissing}
 use Rattle.rules.specs.declared.Verdict.{Verdict}
 use Rattle.rules.specs.declared.Verdict.the-variants.{Accepted, Refused}
-use Rattle.rules.specs.Answers.{Answer, answer, refusal, check}
+use Rattle.basics.specs.Answers.{Answer, answer, refusal, check}
 use Rattle.rules.specs.Tables.{Table, goalFacts}
 use Rattle.rules.specs.Facts.{holds}
 use Rattle.rules.specs.Progression.{State, Step, act, mth, isEmpty, afterAll, begin, totalCost}
@@ -60,25 +62,25 @@ apply f t p o =
 -- Refusals 14, "stack not empty at the end", and 15, "goal fact missing at the end", at "lines in all".
 abbrev pub finish : Table → Place → Answer Tally
 finish t p =
-    check (isEmpty (p .state .stack)) 14 (p .lines)
-    (check (holds (goalFacts t) (p .state .facts)) 15 (p .lines) (accepted (p .cost) (p .operators) (p .steps)))
+    check (isEmpty (p .state .stack)) stackNotEmpty (p .lines)
+    (check (holds (goalFacts t) (p .state .facts)) goalMissing (p .lines) (accepted (p .cost) (p .operators) (p .steps)))
 
 -- "11 to 13 by the first line at fault": shape, "operator not emitted", "operator not applicable", at the "line".
-abbrev pub checkFrom : ℕ → Table → ℕ → Place → List Line → Answer Tally
-checkFrom f t b p [] = finish t p
-checkFrom f t b p (note ∷ ls) = checkFrom f t b (skip p) ls
-checkFrom f t b p (other ∷ ls) = refusal 11 (suc (p .lines))
-checkFrom f t b p (oper o ∷ ls) =
-    check (emitted f t b o) 12 (suc (p .lines))
-    (check (applies f t (p .state) o) 13 (suc (p .lines)) (checkFrom f t b (apply f t p o) ls))
+abbrev pub checkFrom : ℕ → ℕ → Table → Place → List Line → Answer Tally
+checkFrom b f t p [] = finish t p
+checkFrom b f t p (note ∷ ls) = checkFrom b f t (skip p) ls
+checkFrom b f t p (other ∷ ls) = refusal lineShape (suc (p .lines))
+checkFrom b f t p (oper o ∷ ls) =
+    check (emitted b f t o) notEmitted (suc (p .lines))
+    (check (applies f t (p .state) o) notApplicable (suc (p .lines)) (checkFrom b f t (apply f t p o) ls))
 
-unfoldable pub checkLines : ℕ → Table → ℕ → List Line → Answer Tally
-checkLines f t b ls = checkFrom f t b (record { lines = 0; state = begin t; cost = 0; operators = 0; steps = 0 }) ls
+unfoldable pub checkLines : ℕ → ℕ → Table → List Line → Answer Tally
+checkLines b f t ls = checkFrom b f t (record { lines = 0; state = begin t; cost = 0; operators = 0; steps = 0 }) ls
 
 -- "16-bit words, each written as two bytes, low first: action k as k, method k as 1,024 + k".
 abbrev pub wordOf : Step → ℕ
 wordOf (act k) = k
-wordOf (mth k) = 1024 + k
+wordOf (mth k) = methodWords + k
 
 unfoldable pub stepBytes : List Step → List ℕ
 stepBytes [] = []

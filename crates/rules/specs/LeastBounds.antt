@@ -4,6 +4,7 @@ use mathlib.Core.Bool.{Bool, true, _&&_, not, cond}
 use mathlib.Core.List.{List, [], _∷_, _++_}
 use lib.ListN.{length, getD, set, replicate}
 use lib.Dec.{T, leb, ltb}
+use Rattle.rules.specs.Limits.{mostBound}
 use Rattle.rules.specs.Tables.{Table, Method, actionCount, methodCount, startTask, method}
 use Rattle.rules.specs.Progression.{Step, fits, moved, isEmpty}
 
@@ -18,12 +19,16 @@ Clearable t b = (1 ≤ b) × ((xs : List Step) × Clears t b (startTask t ∷ []
 
 -- "the smallest b from 1 to 64 with which" this is so; "0 if there is none".
 pub record Least (t : Table) (r : ℕ) : Type 0 where
-  pub clears : 1 ≤ r → (r ≤ 64) × Clearable t r
-  pub smallest : (b : ℕ) → b ≤ 64 → Clearable t b → (1 ≤ r) × (r ≤ b)
+  pub clears : 1 ≤ r → (r ≤ mostBound) × Clearable t r
+  pub smallest : (b : ℕ) → b ≤ mostBound → Clearable t b → (1 ≤ r) × (r ≤ b)
 
--- How it is found. `v` holds a bound for each task, 65 where none is known: 1 for an action, at first 65 for an abstract task.
+-- How it is found: a bound that is above all, where none is known.
+abbrev pub unknown : ℕ
+unknown = suc mostBound
+
+-- `v` holds a bound for each task: 1 for an action, at first none for an abstract task.
 abbrev pub boundOf : List ℕ → ℕ → ℕ
-boundOf v c = getD v c 65
+boundOf v c = getD v c unknown
 
 -- How high a row of tasks rises as it is cleared, the first on top.
 abbrev pub rise : List ℕ → List ℕ → ℕ
@@ -59,12 +64,12 @@ total [] = 0
 total (n ∷ v) = n + total v
 
 abbrev pub first : Table → List ℕ
-first t = replicate (actionCount t) 1 ++ replicate (t .head .abstracts) 65
+first t = replicate (actionCount t) 1 ++ replicate (t .head .abstracts) unknown
 
--- A bound above 64 is none.
-abbrev pub upTo64 : ℕ → ℕ
-upTo64 n = cond (leb n 64) n 0
+-- A bound above the highest is none.
+abbrev pub upToMost : ℕ → ℕ
+upToMost n = cond (leb n mostBound) n 0
 
 -- Each round but the last lowers the total.
 unfoldable pub leastBound : Table → ℕ
-leastBound t = upTo64 (boundOf (rounds t (suc (total (first t))) (first t)) (startTask t))
+leastBound t = upToMost (boundOf (rounds t (suc (total (first t))) (first t)) (startTask t))

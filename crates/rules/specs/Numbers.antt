@@ -5,7 +5,8 @@ use mathlib.Core.Bool.{Bool, true, false, cond}
 use lib.ListN.{length, getD, drop}
 use lib.Seq.{slice}
 use lib.Dec.{ltb, leb, eqb}
-use Rattle.rules.specs.Readings.{Reading, got, bad, then}
+use Rattle.basics.specs.Readings.{Reading, got, bad, then}
+use Rattle.rules.specs.Reasons.{tableEnds, badNumber}
 
 -- "top bit set on all but the last group": how many bytes with the top bit set come first.
 unfoldable pub run : List ℕ → ℕ
@@ -26,8 +27,8 @@ sound k b = cond (eqb k 0) true (cond (eqb b 0) false (cond (ltb k 9) true (cond
 unfoldable pub numberAt : List ℕ → ℕ → ℕ → Reading ℕ
 numberAt s at k =
     cond (ltb (at + k) (length s))
-    (cond (sound k (getD s (at + k) 0)) (got (spell (slice at (at + k + 1) s)) (at + k + 1)) (bad 6 at))
-    (bad 5 at)
+    (cond (sound k (getD s (at + k) 0)) (got (spell (slice at (at + k + 1) s)) (at + k + 1)) (bad badNumber at))
+    (bad tableEnds at)
 
 abbrev pub readNumber : List ℕ → ℕ → Reading ℕ
 readNumber s at = numberAt s at (run (drop at s))

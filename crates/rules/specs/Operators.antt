@@ -4,7 +4,7 @@ use mathlib.Core.Bool.{Bool, _&&_, cond}
 use mathlib.Core.List.{List, [], _∷_, _++_, map}
 use lib.ListN.{length}
 use lib.Dec.{eqb, ltb, leb}
-use Rattle.rules.specs.Lists.{rows, upto}
+use Rattle.basics.specs.Lists.{rows, upto}
 use Rattle.rules.specs.Tables.{Table, actionCount, methodCount, action, method}
 use Rattle.rules.specs.Facts.{Join, joinOf}
 use Rattle.rules.specs.Progression.{Step, act, mth, State, height, allAllowed, prefix, stays, remain}
@@ -46,13 +46,13 @@ abbrev pub highest : ℕ → ℕ → ℕ
 highest b r = cond (eqb r 0) b (b + 1 - r)
 
 -- "Action operators exist at every position. Method operators exist at" these. "A dead method has none."
-unfoldable pub positions : ℕ → Table → ℕ → Step → ℕ
-positions f t b (act k) = cond (ltb k (actionCount t)) b 0
-positions f t b (mth k) = cond (ltb k (methodCount t)) (cond (joined f t (mth k) .dead) 0 (highest b (remain f t k))) 0
+unfoldable pub positions : ℕ → ℕ → Table → Step → ℕ
+positions b f t (act k) = cond (ltb k (actionCount t)) b 0
+positions b f t (mth k) = cond (ltb k (methodCount t)) (cond (joined f t (mth k) .dead) 0 (highest b (remain f t k))) 0
 
 -- "With bound b, positions are 1 to b": the operators that are emitted.
-abbrev pub emitted : ℕ → Table → ℕ → Operator → Bool
-emitted f t b o = leb 1 (o .at) && leb (o .at) (positions f t b (o .what))
+abbrev pub emitted : ℕ → ℕ → Table → Operator → Bool
+emitted b f t o = leb 1 (o .at) && leb (o .at) (positions b f t (o .what))
 
 -- "needing top i and the head (or the action) there", and each step allowed in turn.
 abbrev pub applies : ℕ → Table → State → Operator → Bool
@@ -62,7 +62,7 @@ applies f t s o = eqb (o .at) (height s) && allAllowed t s (expand f t o)
 abbrev pub risingFrom1 : Step → ℕ → List Operator
 risingFrom1 x n = rows (λ i. record { what = x; at = suc i }) n
 
-unfoldable pub operatorsOf : ℕ → Table → ℕ → List Operator
-operatorsOf f t b =
-    upto (λ k. risingFrom1 (act k) (positions f t b (act k))) (actionCount t)
-    ++ upto (λ k. risingFrom1 (mth k) (positions f t b (mth k))) (methodCount t)
+unfoldable pub operatorsOf : ℕ → ℕ → Table → List Operator
+operatorsOf b f t =
+    upto (λ k. risingFrom1 (act k) (positions b f t (act k))) (actionCount t)
+    ++ upto (λ k. risingFrom1 (mth k) (positions b f t (mth k))) (methodCount t)

@@ -5,12 +5,12 @@ use mathlib.Core.List.{List, [], _∷_, _++_, map}
 use lib.ListN.{length, getD}
 use lib.Dec.{eqb, ltb}
 use lib.Bits.{bitOr}
-use Rattle.rules.specs.Lists.{rows, concat}
+use Rattle.basics.specs.Lists.{rows, concat}
 use Rattle.rules.specs.Tables.{Table, factCount, taskCount, startTask, startFacts, goalFacts}
 use Rattle.rules.specs.Facts.{Join, has, without, membersOf}
 use Rattle.rules.specs.Progression.{Step, act, mth, totalCost}
 use Rattle.rules.specs.Operators.{Operator, expand, joined, taskOf, leaves, operatorsOf}
-use Rattle.rules.specs.Texts.{bytes, digits, line}
+use Rattle.basics.specs.Texts.{bytes, digits, line}
 
 -- "facts 0 to F − 1 (value 0 holds, 1 doesn't); F is the top of the stack (values 0 to b); F + i is position i (value = task, A + C = none)".
 abbrev pub variableCount : Table → ℕ → ℕ
@@ -60,11 +60,11 @@ valueLine v x = line (digits v ∷ digits x ∷ [])
 abbrev pub goalLines : Table → List (List ℕ)
 goalLines t = map (λ k. valueLine k 0) (membersOf (factCount t) (goalFacts t)) ++ (valueLine (factCount t) 0 ∷ [])
 
-unfoldable pub middle : ℕ → Table → ℕ → List ℕ
-middle f t b =
+unfoldable pub middle : ℕ → ℕ → Table → List ℕ
+middle b f t =
     bytes "0\nbegin_state\n" ++ concat (rows (λ v. line (digits (startValue t v) ∷ [])) (variableCount t b)) ++ bytes "end_state\n"
     ++ bytes "begin_goal\n" ++ line (digits (length (goalLines t)) ∷ []) ++ concat (goalLines t) ++ bytes "end_goal\n"
-    ++ line (digits (length (operatorsOf f t b)) ∷ [])
+    ++ line (digits (length (operatorsOf b f t)) ∷ [])
 
 -- ---- "An operator holds name, prevail count and lines (variable, value), effect count and lines (0 conditions, variable, before, after), cost."
 
@@ -133,11 +133,11 @@ operatorText f t o =
 
 -- ---- "Last: axiom count 0." All sections in order, and the whole text.
 
-unfoldable pub sectionsOf : ℕ → Table → ℕ → List (List ℕ)
-sectionsOf f t b =
+unfoldable pub sectionsOf : ℕ → ℕ → Table → List (List ℕ)
+sectionsOf b f t =
     (preamble t b ∷ rows (variableText t b) (variableCount t b))
-    ++ (middle f t b ∷ map (operatorText f t) (operatorsOf f t b))
+    ++ (middle b f t ∷ map (operatorText f t) (operatorsOf b f t))
     ++ (bytes "0\n" ∷ [])
 
-unfoldable pub problemText : ℕ → Table → ℕ → List ℕ
-problemText f t b = concat (sectionsOf f t b)
+unfoldable pub problemText : ℕ → ℕ → Table → List ℕ
+problemText b f t = concat (sectionsOf b f t)

@@ -4,7 +4,9 @@ use mathlib.Core.List.{List, []}
 use mathlib.Core.Bool.{cond}
 use lib.ListN.{length, getD}
 use lib.Dec.{ltb}
-use Rattle.rules.specs.Readings.{Reading, got, bad, then, _>>=_, give, many}
+use Rattle.basics.specs.Readings.{Reading, got, bad, then, _>>=_, give, many}
+use Rattle.rules.specs.Limits.{mostFacts, mostActions, mostTasks, mostMethods, mostSubtasks, mostCost}
+use Rattle.rules.specs.Reasons.{outOfRange, notThere, bytesAfterTable}
 use Rattle.rules.specs.Numbers.{ranged}
 
 pub record Header : Type 0 where
@@ -39,35 +41,35 @@ allFacts f = 2 ^ f - 1
 -- the starting task; the start facts; the goal facts". "Starting task and heads are abstract."
 unfoldable pub header : List ℕ → ℕ → Reading Header
 header s = do
-  facts ← ranged s 0 64 7
-  actions ← ranged s 0 255 7
-  abstracts ← ranged s 1 (256 - actions) 7
-  methods ← ranged s 0 512 7
-  start ← ranged s actions (actions + abstracts - 1) 8
-  init ← ranged s 0 (allFacts facts) 8
-  goal ← ranged s 0 (allFacts facts) 8
+  facts ← ranged s 0 mostFacts outOfRange
+  actions ← ranged s 0 mostActions outOfRange
+  abstracts ← ranged s 1 (mostTasks - actions) outOfRange
+  methods ← ranged s 0 mostMethods outOfRange
+  start ← ranged s actions (actions + abstracts - 1) notThere
+  init ← ranged s 0 (allFacts facts) notThere
+  goal ← ranged s 0 (allFacts facts) notThere
   give (record { facts = facts; actions = actions; abstracts = abstracts; methods = methods; start = start; init = init; goal = goal })
 
 -- "per action its needed, added and deleted facts and its cost (0 to 65,535)". No set is above `top`.
 unfoldable pub readAction : List ℕ → ℕ → ℕ → Reading Action
 readAction s top = do
-  needs ← ranged s 0 top 8
-  adds ← ranged s 0 top 8
-  dels ← ranged s 0 top 8
-  cost ← ranged s 0 65535 7
+  needs ← ranged s 0 top notThere
+  adds ← ranged s 0 top notThere
+  dels ← ranged s 0 top notThere
+  cost ← ranged s 0 mostCost outOfRange
   give (record { needs = needs; adds = adds; dels = dels; cost = cost })
 
 -- "per method its head, its count n of subtasks (0 to 8) and the subtasks". The first abstract task is lo, the last task hi.
 unfoldable pub readMethod : List ℕ → ℕ → ℕ → ℕ → Reading Method
 readMethod s lo hi = do
-  head ← ranged s lo hi 8
-  n ← ranged s 0 8 7
-  subs ← many (ranged s 0 hi 8) n
+  head ← ranged s lo hi notThere
+  n ← ranged s 0 mostSubtasks outOfRange
+  subs ← many (ranged s 0 hi notThere) n
   give (record { head = head; subs = subs })
 
 -- Refusal 9: "bytes after the table", at "first of them".
 unfoldable pub closed : List ℕ → Table → ℕ → Reading Table
-closed s t at = cond (ltb at (length s)) (bad 9 at) (got t at)
+closed s t at = cond (ltb at (length s)) (bad bytesAfterTable at) (got t at)
 
 -- "In order": the table that the bytes are, or the first refusal of 5 to 9 and its place.
 -- "Tasks 0 to A − 1 are actions, A to A + C − 1 abstract."

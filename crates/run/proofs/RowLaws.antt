@@ -14,12 +14,12 @@ use Rattle.rules.specs.Progression.{onTop}
 use Rattle.rows.specs.Rows.{Row}
 use Rattle.rows.specs.Stacks.{stackOf}
 use Rattle.run.specs.Steps.{Point, Moved, refused, stepRow}
-use Rattle.run.specs.Runs.{pointOf, turnedOf, landing, TallyOk}
-use Rattle.run.specs.declared.Tally.{Tally}
+use Rattle.run.specs.Runs.{pointOf, turnedOf, landing, ProgressOk}
+use Rattle.run.specs.declared.Progress.{Progress}
 use Rattle.run.specs.declared.Turned.{Turned}
 use Rattle.rows.proofs.StackLaws.{stack-pop, stack-height}
 
-module _ (r : Row) (pos : ℕ) (t : Tally) (cells : List ℕ) where
+module _ (r : Row) (pos : ℕ) (t : Progress) (cells : List ℕ) where
   abbrev here : Point
   here = pointOf t cells
 
@@ -81,13 +81,13 @@ module _ (r : Row) (pos : ℕ) (t : Tally) (cells : List ℕ) where
         row-done n new q = ap arrived q ∙ sym (decided ∙ rw (eq-eqb (getD cells (t .height - 1) 0) (r .task) k, n))
 
 -- A refused turn and one that lands: what is kept.
-module _ (cells : List ℕ) {r : Turned} {t : Tally} {x : Moved} where
-  pub refusing : {n : ℕ} → r ≡ record { number = n; tally = t } → refused n (pointOf t cells) ≡ x → (length cells ≡ 72) × TallyOk t
-      → (turnedOf r cells ≡ x) × ((length cells ≡ 72) × TallyOk (r .tally))
-  refusing e q p = (ap (λ (u : Turned). turnedOf u cells) e ∙ q, (p .0, subst (λ (u : Turned). TallyOk (u .tally)) (sym e) (p .1)))
+module _ (cells : List ℕ) {r : Turned} {t : Progress} {x : Moved} where
+  pub refusing : {n : ℕ} → r ≡ record { number = n; progress = t } → refused n (pointOf t cells) ≡ x → (length cells ≡ 72) × ProgressOk t
+      → (turnedOf r cells ≡ x) × ((length cells ≡ 72) × ProgressOk (r .progress))
+  refusing e q p = (ap (λ (u : Turned). turnedOf u cells) e ∙ q, (p .0, subst (λ (u : Turned). ProgressOk (u .progress)) (sym e) (p .1)))
 
-pub landing-ok : (t : Tally) (below stay : ℕ) (row : Row) → TallyOk t → t .operators < 65535 → row .steps ≤ 9 → row .cost ≤ 524280 → below + stay ≤ 64
-    → TallyOk (landing t below stay row)
+pub landing-ok : (t : Progress) (below stay : ℕ) (row : Row) → ProgressOk t → t .operators < 65535 → row .steps ≤ 9 → row .cost ≤ 524280 → below + stay ≤ 64
+    → ProgressOk (landing t below stay row)
 landing-ok t below stay row ok few s c h =
     record {
       height = h;

@@ -12,14 +12,14 @@ use Rattle.rules.specs.Tables.{Table, actionCount, methodCount}
 use Rattle.rules.specs.Facts.{holds, changed}
 use Rattle.rules.specs.Progression.{State, Step, act, mth, onTop, fits, allowed, allAllowed, afterAll, totalCost}
 use Rattle.rules.specs.Operators.{Operator, company, joined, taskOf, expand, leaves, positions, emitted, applies}
-use Rattle.rules.specs.Answers.{refusal}
+use Rattle.basics.specs.Answers.{refusal}
 use Rattle.rules.specs.Plans.{Line, oper}
 use Rattle.rules.specs.Checks.{checkFrom}
 use Rattle.laws.proofs.TestLaws.{and-l, and-r, and-i}
 use Rattle.laws.proofs.CountLaws.{method-positions}
 use Rattle.laws.proofs.JoinedPrefix.{action-joined, step-needs, step-runs, step-after}
 use Rattle.rows.specs.Rows.{rowOf}
-use Rattle.run.specs.Steps.{Point, Moved, stateOf, placeOf, refused, reached, documentStep, stepRow, Known}
+use Rattle.run.specs.Steps.{Point, Moved, stateOf, checkAt, refused, reached, documentStep, stepRow, Known}
 
 -- Two tests that pass together are one.
 same-test : (a b : Bool) → (T a → T b) → (T b → T a) → a ≡ b
@@ -40,14 +40,14 @@ module _ (f : ℕ) (t : Table) where
   known-fits (mth k) l st = rw (lt-ltb k (methodCount t) l)
 
   -- What is emitted somewhere is not dead.
-  emitted-lives : (b : ℕ) (x : Step) → Known t x → (pos : ℕ) → T (leb 1 pos && leb pos (positions f t b x)) → T (not (joined f t x .dead))
+  emitted-lives : (b : ℕ) (x : Step) → Known t x → (pos : ℕ) → T (leb 1 pos && leb pos (positions b f t x)) → T (not (joined f t x .dead))
   emitted-lives b (act k) l pos h = rw (action-joined f t k) tt
   emitted-lives b (mth k) l pos h = go (joined f t (mth k) .dead) refl
     where
       go : (d : Bool) → joined f t (mth k) .dead ≡ d → T (not d)
       go false e = tt
       go true e =
-          let z : positions f t b (mth k) ≡ 0 = method-positions f t b k l ∙ rw e in
+          let z : positions b f t (mth k) ≡ 0 = method-positions b f t k l ∙ rw e in
           subst T (ap (λ (n : ℕ). leb 1 pos && leb pos n) z ∙ nowhere pos) h
 
   -- The steps of an operator that is not dead run one after the other where its task is on top and its joined needs hold.
@@ -60,18 +60,18 @@ module _ (f : ℕ) (t : Table) where
       (rw (known-fits x l (s .stack)) at (and-l (fits t (s .stack) x) _ (and-l (allowed t s x) _ h)))
       (step-needs f t x s h .1))
 
-  unknown-positions : (b : ℕ) (x : Step) → (Known t x → ⊥) → positions f t b x ≡ 0
+  unknown-positions : (b : ℕ) (x : Step) → (Known t x → ⊥) → positions b f t x ≡ 0
   unfolding positions
   unknown-positions b (act k) n = rw (le-ltb k (actionCount t) (omega (arith, n)))
   unknown-positions b (mth k) n = rw (le-ltb k (methodCount t) (omega (arith, n)))
 
-  pub unknown-emitted : (b : ℕ) (x : Step) (pos : ℕ) → (Known t x → ⊥) → emitted f t b (record { what = x; at = pos }) ≡ false
+  pub unknown-emitted : (b : ℕ) (x : Step) (pos : ℕ) → (Known t x → ⊥) → emitted b f t (record { what = x; at = pos }) ≡ false
   unknown-emitted b x pos n = ap (λ (last : ℕ). leb 1 pos && leb pos last) (unknown-positions b x n) ∙ nowhere pos
 
   module _ (b : ℕ) (x : Step) (pos : ℕ) (p : Point) where
-    pub step-document : Known t x → stepRow (rowOf f t b x) pos p ≡ documentStep f t b (record { what = x; at = pos }) p
+    pub step-document : Known t x → stepRow (rowOf b f t x) pos p ≡ documentStep b f t (record { what = x; at = pos }) p
     unfolding stepRow documentStep
-    step-document l = go (leb 1 pos && leb pos (positions f t b x)) (emitted-lives b x l pos)
+    step-document l = go (leb 1 pos && leb pos (positions b f t x)) (emitted-lives b x l pos)
       where
         s : State
         s = stateOf p
@@ -97,24 +97,24 @@ module _ (f : ℕ) (t : Table) where
             ap₂ (λ (runs : Bool) (m : Moved). cond (eqb pos (length (p .stack)) && runs) m (refused 13 p))
             (step-allowed x l (d tt) s) done-document
 
-    pub step-unknown : (Known t x → ⊥) → documentStep f t b (record { what = x; at = pos }) p ≡ refused 12 p
+    pub step-unknown : (Known t x → ⊥) → documentStep b f t (record { what = x; at = pos }) p ≡ refused 12 p
     unfolding documentStep
     step-unknown n = rw (unknown-emitted b x pos n)
 
 -- A line of a check is one step: refused with its number, or on from the point after it.
-pub check-step : (f : ℕ) (t : Table) (b n : ℕ) (p : Point) (o : Operator) (ls : List Line) → checkFrom f t b (placeOf n p) (oper o ∷ ls)
-    ≡ cond (eqb (documentStep f t b o p .number) 0)
-    (checkFrom f t b (placeOf (suc n) (documentStep f t b o p .point)) ls)
-    (refusal (documentStep f t b o p .number) (suc n))
+pub check-step : (b f : ℕ) (t : Table) (n : ℕ) (p : Point) (o : Operator) (ls : List Line) → checkFrom b f t (checkAt n p) (oper o ∷ ls)
+    ≡ cond (eqb (documentStep b f t o p .number) 0)
+    (checkFrom b f t (checkAt (suc n) (documentStep b f t o p .point)) ls)
+    (refusal (documentStep b f t o p .number) (suc n))
 unfolding documentStep
-check-step f t b n p o ls = go (emitted f t b o) (applies f t (stateOf p) o)
+check-step b f t n p o ls = go (emitted b f t o) (applies f t (stateOf p) o)
   where
     after : Moved
     after = reached p (afterAll t (stateOf p) (expand f t o)) (length (expand f t o)) (totalCost t (expand f t o))
 
-    go : (c d : Bool) → cond c (cond d (checkFrom f t b (placeOf (suc n) (after .point)) ls) (refusal 13 (suc n))) (refusal 12 (suc n))
+    go : (c d : Bool) → cond c (cond d (checkFrom b f t (checkAt (suc n) (after .point)) ls) (refusal 13 (suc n))) (refusal 12 (suc n))
         ≡ cond (eqb (cond c (cond d after (refused 13 p)) (refused 12 p) .number) 0)
-        (checkFrom f t b (placeOf (suc n) (cond c (cond d after (refused 13 p)) (refused 12 p) .point)) ls)
+        (checkFrom b f t (checkAt (suc n) (cond c (cond d after (refused 13 p)) (refused 12 p) .point)) ls)
         (refusal (cond c (cond d after (refused 13 p)) (refused 12 p) .number) (suc n))
     go true true = refl
     go true false = refl

@@ -7,27 +7,27 @@ use Rattle.rules.specs.Facts.{changed}
 use Rattle.rows.specs.Rows.{Row}
 use Rattle.rows.specs.Stacks.{stackOf}
 use Rattle.run.specs.Steps.{Point, Moved}
-use Rattle.run.specs.declared.Tally.{Tally}
+use Rattle.run.specs.declared.Progress.{Progress}
 use Rattle.run.specs.declared.Turned.{Turned}
 use Rattle.run.specs.declared.Run.{Run}
 use Rattle.run.specs.declared.Stepped.{Stepped}
 
 -- A run whose stack stands in cells of its own.
-abbrev pub pointOf : Tally → List ℕ → Point
+abbrev pub pointOf : Progress → List ℕ → Point
 pointOf t cells = record { facts = t .facts; stack = stackOf cells (t .height); operators = t .operators; steps = t .steps; cost = t .cost }
 
 abbrev pub turnedOf : Turned → List ℕ → Moved
-turnedOf r cells = record { number = r .number; point = pointOf (r .tally) cells }
+turnedOf r cells = record { number = r .number; point = pointOf (r .progress) cells }
 
 -- The numbers fit: an operator has at most 9 steps, each of cost at most 65,535, and its own step costs nothing.
-pub record TallyOk (t : Tally) : Type 0 where
+pub record ProgressOk (t : Progress) : Type 0 where
   pub height : t .height ≤ 64
   pub operators : t .operators ≤ 65535
   pub steps : t .steps ≤ 9 * t .operators
   pub cost : t .cost ≤ 524280 * t .operators
 
--- The tally after a row's operator, which leaves `stay` tasks above the `below` that stand under its own.
-abbrev pub landing : Tally → ℕ → ℕ → Row → Tally
+-- The progress after a row's operator, which leaves `stay` tasks above the `below` that stand under its own.
+abbrev pub landing : Progress → ℕ → ℕ → Row → Progress
 landing t below stay r =
     record {
       facts = changed (r .dels) (r .adds) (t .facts);
@@ -38,11 +38,11 @@ landing t below stay r =
     }
 
 -- A run by value.
-abbrev pub tallyOf : Run → Tally
-tallyOf r = record { facts = r .facts; height = r .height; operators = r .operators; steps = r .steps; cost = r .cost }
+abbrev pub progressOf : Run → Progress
+progressOf r = record { facts = r .facts; height = r .height; operators = r .operators; steps = r .steps; cost = r .cost }
 
 abbrev pub runPoint : Run → Point
-runPoint r = pointOf (tallyOf r) (r .stack)
+runPoint r = pointOf (progressOf r) (r .stack)
 
 abbrev pub steppedOf : Stepped → Moved
 steppedOf s = record { number = s .number; point = runPoint (s .run) }

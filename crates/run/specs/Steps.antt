@@ -28,8 +28,8 @@ abbrev pub stateOf : Point → State
 stateOf p = record { facts = p .facts; stack = p .stack }
 
 -- A check that stands there, so many lines passed.
-abbrev pub placeOf : ℕ → Point → Place
-placeOf lines p = record { lines = lines; state = stateOf p; cost = p .cost; operators = p .operators; steps = p .steps }
+abbrev pub checkAt : ℕ → Point → Place
+checkAt lines p = record { lines = lines; state = stateOf p; cost = p .cost; operators = p .operators; steps = p .steps }
 
 abbrev pub refused : ℕ → Point → Moved
 refused number p = record { number = number; point = p }
@@ -49,9 +49,9 @@ reached p s steps cost =
     }
 
 -- Refusals 12, "operator not emitted", and 13, "operator not applicable".
-unfoldable pub documentStep : ℕ → Table → ℕ → Operator → Point → Moved
-documentStep f t b o p =
-    cond (emitted f t b o)
+unfoldable pub documentStep : ℕ → ℕ → Table → Operator → Point → Moved
+documentStep b f t o p =
+    cond (emitted b f t o)
     (cond (applies f t (stateOf p) o)
     (reached p (afterAll t (stateOf p) (expand f t o)) (length (expand f t o)) (totalCost t (expand f t o)))
     (refused 13 p))

@@ -5,7 +5,7 @@ ghost use lib.ListN.{length, getD, drop};
 ghost use Rattle.rules.specs.Facts.{holds};
 ghost use Rattle.rows.specs.Rows.{rowAt, RowOk};
 ghost use Rattle.run.specs.Steps.{stepRow};
-ghost use Rattle.run.specs.Runs.{Pushed, TallyOk, landing, pointOf, turnedOf, tallyOf, runPoint, steppedOf};
+ghost use Rattle.run.specs.Runs.{Pushed, ProgressOk, landing, pointOf, turnedOf, progressOf, runPoint, steppedOf};
 
 // Whether all needed facts are among the facts.
 pub fn all_hold(needs: u64, facts: u64) -> bool
@@ -15,7 +15,7 @@ pub fn all_hold(needs: u64, facts: u64) -> bool
 }
 
 // What a run counts, its stack apart.
-pub struct Tally {
+pub struct Progress {
     pub facts: u64,
     pub height: usize,
     pub operators: u64,
@@ -23,10 +23,10 @@ pub struct Tally {
     pub cost: u64,
 }
 
-// A refusal's number, or 0, and the tally after it, or as it was.
+// A refusal's number, or 0, and the progress after it, or as it was.
 pub struct Turned {
     pub number: u64,
-    pub tally: Tally,
+    pub progress: Progress,
 }
 
 // Eight cells into the stack from `below` on: a fixed count is one load and one store.
@@ -41,15 +41,15 @@ fn put_row(stack: &mut [u16; 72], below: usize, cells: &[u16], from: usize)
     }
 }
 
-fn refuse(number: u64, tally: Tally) -> Turned
-    ensures { λ r. ⌜ r ≡ record { number = number; tally = tally } ⌝ }
+fn refuse(number: u64, progress: Progress) -> Turned
+    ensures { λ r. ⌜ r ≡ record { number = number; progress = progress } ⌝ }
 {
-    Turned { number, tally }
+    Turned { number, progress }
 }
 
 // What the operator of row `index` makes of the numbers: `below` tasks stand under those that it leaves.
-fn landed(t: Tally, below: usize, ops: &[u64], cells: &[u16], index: usize) -> Tally
-    requires { ⌜ TallyOk t × (t .operators < 65535) × RowOk (now ops) (now cells) index × (below ≤ 64) ⌝ }
+fn landed(t: Progress, below: usize, ops: &[u64], cells: &[u16], index: usize) -> Progress
+    requires { ⌜ ProgressOk t × (t .operators < 65535) × RowOk (now ops) (now cells) index × (below ≤ 64) ⌝ }
     ensures { λ r. ⌜ r ≡ landing t below (getD (now (cells .entry)) (12 * index + 9) 0) (rowAt (now (ops .entry)) (now (cells .entry)) index) ⌝ }
 {
     let at = 4 * index;
@@ -65,7 +65,7 @@ fn landed(t: Tally, below: usize, ops: &[u64], cells: &[u16], index: usize) -> T
     let operators = t.operators + 1;
     let walked = t.steps + steps;
     let spent = t.cost + cost;
-    Tally {
+    Progress {
         facts: facts,
         height: high,
         operators: operators,
@@ -76,18 +76,18 @@ fn landed(t: Tally, below: usize, ops: &[u64], cells: &[u16], index: usize) -> T
 
 // The operator of row `index` at a position, on a run whose stack is lent.
 pub fn turn(
-    t: Tally,
+    t: Progress,
     stack: &mut [u16; 72],
     ops: &[u64],
     cells: &[u16],
     index: usize,
     pos: u64,
 ) -> Turned
-    requires { ⌜ (length (now stack) ≡ 72) × TallyOk t ⌝ }
+    requires { ⌜ (length (now stack) ≡ 72) × ProgressOk t ⌝ }
     requires { ⌜ t .operators < 65535 ⌝ }
     requires { ⌜ RowOk (now ops) (now cells) index ⌝ }
     ensures { λ r. ⌜ turnedOf r (now (stack .exit)) ≡ stepRow (rowAt (now (ops .entry)) (now (cells .entry)) index) pos (pointOf t (now (stack .entry))) ⌝ }
-    ensures { λ r. ⌜ (length (now (stack .exit)) ≡ 72) × TallyOk (r .tally) ⌝ }
+    ensures { λ r. ⌜ (length (now (stack .exit)) ≡ 72) × ProgressOk (r .progress) ⌝ }
 {
     let at = 4 * index;
     let from = 12 * index;
@@ -113,8 +113,11 @@ pub fn turn(
         return refuse(13, t);
     }
     put_row(stack, below, cells, from);
-    let tally = landed(t, below, ops, cells, index);
-    Turned { number: 0, tally }
+    let progress = landed(t, below, ops, cells, index);
+    Turned {
+        number: 0,
+        progress,
+    }
 }
 
 // A run by value, its stack with eight cells of room above the highest bound.
@@ -136,14 +139,14 @@ pub struct Stepped {
 
 // The same on a run by value.
 pub fn step(run: Run, ops: &[u64], cells: &[u16], index: usize, pos: u64) -> Stepped
-    requires { ⌜ TallyOk (tallyOf run) ⌝ }
+    requires { ⌜ ProgressOk (progressOf run) ⌝ }
     requires { ⌜ run .operators < 65535 ⌝ }
     requires { ⌜ RowOk (now ops) (now cells) index ⌝ }
     ensures { λ r. ⌜ steppedOf r ≡ stepRow (rowAt (now (ops .entry)) (now (cells .entry)) index) pos (runPoint run) ⌝ }
-    ensures { λ r. ⌜ (r .run .bound ≡ run .bound) × (r .run .form ≡ run .form) × TallyOk (tallyOf (r .run)) ⌝ }
+    ensures { λ r. ⌜ (r .run .bound ≡ run .bound) × (r .run .form ≡ run .form) × ProgressOk (progressOf (r .run)) ⌝ }
 {
     let mut stack = run.stack;
-    let t = Tally {
+    let t = Progress {
         facts: run.facts,
         height: run.height,
         operators: run.operators,
@@ -151,7 +154,7 @@ pub fn step(run: Run, ops: &[u64], cells: &[u16], index: usize, pos: u64) -> Ste
         cost: run.cost,
     };
     let turned = turn(t, &mut stack, ops, cells, index, pos);
-    let n = turned.tally;
+    let n = turned.progress;
     let after = Run {
         bound: run.bound,
         form: run.form,

@@ -5,10 +5,10 @@ use Prim.Native.Nat.{ℕ, suc, _+_, _-_, _≤_, _<_}
 use native.Mathlib.Omega.{arith}
 use borrow.Author.Tests.{lt-ltb, le-ltb}
 use lib.ListN.{length, getD, take}
-use Rattle.rules.specs.Answers.{Answer, answer, refusal, lengthOf}
+use Rattle.basics.specs.Answers.{Answer, answer, refusal, lengthOf}
 use Rattle.rules.specs.Tables.{Table}
 use Rattle.rules.specs.Operators.{Operator, operatorsOf}
-use Rattle.rules.specs.Texts.{bytes}
+use Rattle.basics.specs.Texts.{bytes}
 use Rattle.rules.specs.Sections.{variableCount, preamble, variableText, middle, operatorText, sectionsOf}
 use Rattle.rules.specs.Refusals.{chosen}
 use Rattle.laws.specs.Steps.{stepAt}
@@ -18,33 +18,33 @@ use Rattle.problem.specs.Places.{IsPlace}
 use Rattle.text.specs.Appends.{Appends}
 use Rattle.section.specs.Chosen.{Begins}
 
-module _ (f : ℕ) (t : Table) (b k : ℕ) where
-  here : (m : ℕ) {x : List ℕ} → k ≡ m → m < length (sectionsOf f t b) → getD (sectionsOf f t b) m [] ≡ x → chosen (sectionsOf f t b) k ≡ answer x
-  here m e l q = rw (e, lt-ltb m (length (sectionsOf f t b)) l) (ap answer q)
+module _ (b f : ℕ) (t : Table) (k : ℕ) where
+  here : (m : ℕ) {x : List ℕ} → k ≡ m → m < length (sectionsOf b f t) → getD (sectionsOf b f t) m [] ≡ x → chosen (sectionsOf b f t) k ≡ answer x
+  here m e l q = rw (e, lt-ltb m (length (sectionsOf b f t)) l) (ap answer q)
 
-  pub chosen-first : k ≡ 0 → chosen (sectionsOf f t b) k ≡ answer (preamble t b)
-  chosen-first e = here 0 e (omega (arith, sections-length f t b)) (section-first f t b)
+  pub chosen-first : k ≡ 0 → chosen (sectionsOf b f t) k ≡ answer (preamble t b)
+  chosen-first e = here 0 e (omega (arith, sections-length b f t)) (section-first b f t)
 
-  pub chosen-variable : (k ≡ 0 → ⊥) → k ≤ variableCount t b → chosen (sectionsOf f t b) k ≡ answer (variableText t b (k - 1))
-  chosen-variable n l = here (suc (k - 1)) (omega arith) (omega (arith, sections-length f t b)) (section-variable f t b (k - 1) (omega arith))
+  pub chosen-variable : (k ≡ 0 → ⊥) → k ≤ variableCount t b → chosen (sectionsOf b f t) k ≡ answer (variableText t b (k - 1))
+  chosen-variable n l = here (suc (k - 1)) (omega arith) (omega (arith, sections-length b f t)) (section-variable b f t (k - 1) (omega arith))
 
-  pub chosen-middle : k ≡ variableCount t b + 1 → chosen (sectionsOf f t b) k ≡ answer (middle f t b)
-  chosen-middle e = here (suc (variableCount t b)) (omega arith) (omega (arith, sections-length f t b)) (section-middle f t b)
+  pub chosen-middle : k ≡ variableCount t b + 1 → chosen (sectionsOf b f t) k ≡ answer (middle b f t)
+  chosen-middle e = here (suc (variableCount t b)) (omega arith) (omega (arith, sections-length b f t)) (section-middle b f t)
 
   -- n sections behind the middle.
   module _ (n : ℕ) (e : k ≡ variableCount t b + 2 + n) where
-    pub chosen-operator : (i p : ℕ) → IsPlace f t b n i p → chosen (sectionsOf f t b) k ≡ answer (operatorText f t (record { what = stepAt t i; at = suc p }))
+    pub chosen-operator : (i p : ℕ) → IsPlace b f t n i p → chosen (sectionsOf b f t) k ≡ answer (operatorText f t (record { what = stepAt t i; at = suc p }))
     chosen-operator i p h =
         let o : Operator = record { what = stepAt t i; at = suc p } in
-        here (suc (suc (variableCount t b)) + n) (omega arith) (omega (arith, sections-length f t b, h .within))
-        (section-operator f t b o n (h .within) ∙ ap (operatorText f t) (h .operator o))
+        here (suc (suc (variableCount t b)) + n) (omega arith) (omega (arith, sections-length b f t, h .within))
+        (section-operator b f t o n (h .within) ∙ ap (operatorText f t) (h .operator o))
 
-    pub chosen-last : n ≡ length (operatorsOf f t b) + 0 → chosen (sectionsOf f t b) k ≡ answer (bytes "0\n")
+    pub chosen-last : n ≡ length (operatorsOf b f t) + 0 → chosen (sectionsOf b f t) k ≡ answer (bytes "0\n")
     chosen-last h =
-        here (suc (suc (variableCount t b)) + length (operatorsOf f t b)) (omega arith) (omega (arith, sections-length f t b)) (section-last f t b)
+        here (suc (suc (variableCount t b)) + length (operatorsOf b f t)) (omega arith) (omega (arith, sections-length b f t)) (section-last b f t)
 
-    pub chosen-none : (over : ℕ) → n ≡ length (operatorsOf f t b) + over → (over ≡ 0 → ⊥) → chosen (sectionsOf f t b) k ≡ refusal 10 0
-    chosen-none over h z = rw (le-ltb k (length (sectionsOf f t b)) (omega (arith, sections-length f t b)))
+    pub chosen-none : (over : ℕ) → n ≡ length (operatorsOf b f t) + over → (over ≡ 0 → ⊥) → chosen (sectionsOf b f t) k ≡ refusal 10 0
+    chosen-none over h z = rw (le-ltb k (length (sectionsOf b f t)) (omega (arith, sections-length b f t)))
 
 -- The section stands at the start of the space.
 pub begins : {old x new : List ℕ} {r : ℕ} (y : Answer (List ℕ)) → y ≡ answer x → Appends old 0 x new r → r ≤ 2048 → (answer r ≡ lengthOf y) × Begins y new

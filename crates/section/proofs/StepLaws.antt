@@ -4,7 +4,7 @@ use mathlib.Core.List.{List}
 use Prim.Native.Nat.{ℕ, suc, _+_, _≤_, _<_}
 use native.Mathlib.Omega.{arith}
 use lib.ListN.{length, getD}
-use Rattle.rules.specs.Lists.{upto}
+use Rattle.basics.specs.Lists.{upto}
 use Rattle.rules.specs.Tables.{Table, factCount, taskCount, actionCount, methodCount}
 use Rattle.rules.specs.Operators.{positions}
 use Rattle.rules.specs.Sections.{nameOf, operatorText}
@@ -40,12 +40,12 @@ pub drawn-as : {facts none top free : ℕ} {label name s lens offs : List ℕ} {
     → Drawn s lens offs pen (λ p. rowLines top free label r (suc p)) → Drawn s lens offs pen (λ p. rowLines facts none name r (suc p))
 drawn-as r p q u d = drawn-is d (λ n. λ j. rowLines (p j) (q j) (u j) r (suc n))
 
-module _ (f : ℕ) (t : Table) (b i : ℕ) (ops cells : List ℕ) (e : rowAt ops cells 0 ≡ rowOf f t b (stepAt t i)) where
+module _ (b f : ℕ) (t : Table) (i : ℕ) (ops cells : List ℕ) (e : rowAt ops cells 0 ≡ rowOf b f t (stepAt t i)) where
   pub step-fit : Valid t → i < actionCount t + methodCount t → length ops ≡ 4 → length cells ≡ 12 → Fit (factCount t) (taskCount t) i ops cells
-  step-fit v l p q = row-fit f t b i i ops cells v l (omega (arith, v .head .actions, v .head .methods)) e (omega arith) (omega arith)
+  step-fit v l p q = row-fit b f t i i ops cells v l (omega (arith, v .head .actions, v .head .methods)) e (omega arith) (omega arith)
 
   -- Its highest position.
-  step-count : getD cells 11 0 ≡ positions f t b (stepAt t i)
+  step-count : getD cells 11 0 ≡ positions b f t (stepAt t i)
   step-count = ap (λ (r : Row). r .last) e
 
   pub step-few : Valid t → i < actionCount t + methodCount t → getD cells 11 0 ≤ b
@@ -53,9 +53,9 @@ module _ (f : ℕ) (t : Table) (b i : ℕ) (ops cells : List ℕ) (e : rowAt ops
 
   module _ {s lens offs : List ℕ} {pen : Pen} (d : Drawn s lens offs pen (λ p. rowLines (factCount t) (taskCount t) (nameOf (stepAt t i)) (rowAt ops cells 0) (suc p))) where
     pub operator-drawn : (p : ℕ) → rendered s lens offs pen p ≡ operatorText f t (record { what = stepAt t i; at = suc p })
-    operator-drawn p = d .text p ∙ row-lines f t b (stepAt t i) ops cells (suc p) e
+    operator-drawn p = d .text p ∙ row-lines b f t (stepAt t i) ops cells (suc p) e
 
-    pub step-drawn : stepText f t b i ≡ upto (rendered s lens offs pen) (getD cells 11 0)
+    pub step-drawn : stepText b f t i ≡ upto (rendered s lens offs pen) (getD cells 11 0)
     unfolding stepText
     step-drawn =
         ap (upto (λ p. operatorText f t (record { what = stepAt t i; at = suc p }))) (sym step-count)

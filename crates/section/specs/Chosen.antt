@@ -3,7 +3,7 @@ use Prim.Native.Nat.{ℕ, _≤_}
 use mathlib.Core.Path.{_≡_}
 use mathlib.Core.List.{List}
 use lib.ListN.{length, take}
-use Rattle.rules.specs.Answers.{Answer, answer, refusal}
+use Rattle.basics.specs.Answers.{Answer, answer, refusal}
 
 -- Where there is such a section, the space begins with it, and it is not longer than 2,048 bytes.
 abbrev pub Begins : Answer (List ℕ) → List ℕ → Type 0

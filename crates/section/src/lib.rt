@@ -2,7 +2,7 @@
 ghost use mathlib.Core.Path.{_≡_};
 ghost use Prim.Native.Nat.{suc, _+_, _*_, _≤_, _<_};
 ghost use lib.ListN.{length};
-ghost use Rattle.rules.specs.Answers.{replyOf, lengthOf};
+ghost use Rattle.basics.specs.Answers.{replyOf, lengthOf};
 ghost use Rattle.rules.specs.Tables.{factCount, taskCount, actionCount, methodCount};
 ghost use Rattle.rules.specs.Operators.{positions};
 ghost use Rattle.rules.specs.Sections.{sectionsOf, operatorText, nameOf};
@@ -15,8 +15,8 @@ ghost use Rattle.template.specs.Templates.{Drawn};
 ghost use Rattle.rows.specs.Rows.{rowAt};
 ghost use Rattle.compose.specs.RowTexts.{Fit, rowLines};
 ghost use Rattle.section.specs.Chosen.{Begins};
+use basics::Reply;
 use problem::Found;
-use rules::Reply;
 use template::Pen;
 
 // The operators of step i as one template, from its row.
@@ -47,8 +47,8 @@ fn compose_step(
 // The operators of step i at every position that they exist at, rising.
 pub fn put_operators(
     words: &[u64],
-    form: u64,
     bound: u64,
+    form: u64,
     i: usize,
     figures: &[u8],
     out: &mut [u8],
@@ -56,12 +56,12 @@ pub fn put_operators(
 ) -> usize
     requires { ⌜ Held (now words) × (bound ≤ 64) × (i < actionCount (tableOf (now words)) + methodCount (tableOf (now words))) ⌝ }
     requires { ⌜ Figures (now figures) 512 × (at + 90176 ≤ length (now out)) ⌝ }
-    ensures { λ r. ⌜ Appends (now (out .entry)) at (stepText form (tableOf (now (words .entry))) bound i) (now (out .exit)) r ⌝ }
+    ensures { λ r. ⌜ Appends (now (out .entry)) at (stepText bound form (tableOf (now (words .entry))) i) (now (out .exit)) r ⌝ }
     ensures { λ r. ⌜ r ≤ at + 90112 ⌝ }
 {
     let mut ops = [0u64; 4];
     let mut cells = [0u16; 12];
-    rows::one_row(words, form, bound, i, &mut ops, &mut cells);
+    rows::one_row(words, bound, form, i, &mut ops, &mut cells);
     let mut t = [0u8; 2112];
     let mut lens = [0usize; 12];
     let mut offs = [0usize; 12];
@@ -71,9 +71,9 @@ pub fn put_operators(
 }
 
 // The operator of step i at the position p + 1, at the start of the space.
-fn put_operator(words: &[u64], form: u64, bound: u64, i: usize, p: usize, space: &mut [u8]) -> usize
+fn put_operator(words: &[u64], bound: u64, form: u64, i: usize, p: usize, space: &mut [u8]) -> usize
     requires { ⌜ Held (now words) × (bound ≤ 64) × (i < actionCount (tableOf (now words)) + methodCount (tableOf (now words))) ⌝ }
-    requires { ⌜ (p < positions form (tableOf (now words)) bound (stepAt (tableOf (now words)) i)) × (4096 ≤ length (now space)) ⌝ }
+    requires { ⌜ (p < positions bound form (tableOf (now words)) (stepAt (tableOf (now words)) i)) × (4096 ≤ length (now space)) ⌝ }
     ensures { λ r. ⌜ Appends (now (space .entry)) 0 (operatorText form (tableOf (now (words .entry))) (record { what = stepAt (tableOf (now (words .entry))) i; at = suc p })) (now (space .exit)) r ⌝ }
     ensures { λ r. ⌜ r ≤ 2048 ⌝ }
 {
@@ -81,7 +81,7 @@ fn put_operator(words: &[u64], form: u64, bound: u64, i: usize, p: usize, space:
     template::fill_figures(&mut figures);
     let mut ops = [0u64; 4];
     let mut cells = [0u16; 12];
-    rows::one_row(words, form, bound, i, &mut ops, &mut cells);
+    rows::one_row(words, bound, form, i, &mut ops, &mut cells);
     let mut t = [0u8; 2112];
     let mut lens = [0usize; 12];
     let mut offs = [0usize; 12];
@@ -90,10 +90,10 @@ fn put_operator(words: &[u64], form: u64, bound: u64, i: usize, p: usize, space:
 }
 
 // Section k at the start of the space, and its length; bytes after it may change too.
-pub fn put_section(words: &[u64], form: u64, bound: u64, k: u64, space: &mut [u8]) -> Reply
+pub fn put_section(words: &[u64], bound: u64, form: u64, k: u64, space: &mut [u8]) -> Reply
     requires { ⌜ Held (now words) × (1 ≤ bound) × (bound ≤ 64) × (4096 ≤ length (now space)) ⌝ }
-    ensures { λ r. ⌜ replyOf r ≡ lengthOf (chosen (sectionsOf form (tableOf (now (words .entry))) bound) k) ⌝ }
-    ensures { λ _. ⌜ Begins (chosen (sectionsOf form (tableOf (now (words .entry))) bound) k) (now (space .exit)) ⌝ }
+    ensures { λ r. ⌜ replyOf r ≡ lengthOf (chosen (sectionsOf bound form (tableOf (now (words .entry)))) k) ⌝ }
+    ensures { λ _. ⌜ Begins (chosen (sectionsOf bound form (tableOf (now (words .entry)))) k) (now (space .exit)) ⌝ }
 {
     let variables = words::fact_count(words) + 1 + bound;
     if k == 0 {
@@ -103,11 +103,11 @@ pub fn put_section(words: &[u64], form: u64, bound: u64, k: u64, space: &mut [u8
         return Reply::Value(frame::put_variable(words, bound, k - 1, space, 0) as u64);
     }
     if k == variables + 1 {
-        return Reply::Value(frame::put_middle(words, form, bound, space, 0) as u64);
+        return Reply::Value(frame::put_middle(words, bound, form, space, 0) as u64);
     }
-    match problem::find(words, form, bound, k - variables - 2) {
+    match problem::find(words, bound, form, k - variables - 2) {
         Found::Operator(i, p) => {
-            Reply::Value(put_operator(words, form, bound, i, p, space) as u64)
+            Reply::Value(put_operator(words, bound, form, i, p, space) as u64)
         }
         Found::Past(over) => {
             if over == 0 {

@@ -7,10 +7,10 @@ use Rattle.rules.specs.Tables.{decode}
 use Rattle.laws.proofs.TableLaws.{valid}
 use Rattle.numbers.proofs.AnswerLaws.{via}
 use Rattle.words.specs.Words.{tableOf, Held}
-use Rattle.table.specs.Answers.{stepOf}
-use Rattle.table.specs.declared.Step.{Step}
-use Rattle.table.specs.declared.Step.the-variants.{Next}
+use Rattle.table.specs.Answers.{onwardOf}
+use Rattle.table.specs.declared.Onward.{Onward}
+use Rattle.table.specs.declared.Onward.the-variants.{To}
 
 -- Words into which a table was read hold it.
-pub read-held : (s w : List ℕ) (r : Step) {at : ℕ} → 6147 ≤ length w → stepOf r (tableOf w) ≡ decode s → r ≡ Next at → Held w
-read-held s w r {at} h e p = record { size = h; valid = valid s (tableOf w) at (via (λ (q : Step). stepOf q (tableOf w)) e p) }
+pub read-held : (s w : List ℕ) (r : Onward) {at : ℕ} → 6147 ≤ length w → onwardOf r (tableOf w) ≡ decode s → r ≡ To at → Held w
+read-held s w r {at} h e p = record { size = h; valid = valid s (tableOf w) at (via (λ (q : Onward). onwardOf q (tableOf w)) e p) }

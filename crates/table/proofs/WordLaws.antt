@@ -9,18 +9,18 @@ use mathlib.Core.Logic.{⊎-elim}
 use lib.ListN.{length, getD, take, set}
 use lib.Dec.{lit<}
 use lib.Seq.{sets, getD-set-same}
-use Rattle.rules.specs.Readings.{Reading, got, bad, then, many}
+use Rattle.basics.specs.Readings.{Reading, got, bad, then, many}
 use Rattle.rules.specs.Numbers.{ranged}
-use Rattle.rules.specs.Lists.{rows}
+use Rattle.basics.specs.Lists.{rows}
 use Rattle.words.specs.Words.{headerOf, actionOf, cellOf, methodAt, methodOf, tableOf}
 use Rattle.rules.specs.Tables.{Header, Method, noMethod, readMethod}
 use Rattle.laws.proofs.StoreLaws.{held, kept, below, kept-less}
 use Rattle.laws.proofs.ListLaws.{rows-length, rows-at, rows-same}
 use Rattle.laws.proofs.NumberLaws.{ranged-got}
 use Rattle.laws.proofs.TableLaws.{each, many-all}
-use Rattle.table.specs.Answers.{stepOf}
-use Rattle.table.specs.declared.Step.{Step}
-use Rattle.table.specs.declared.Step.the-variants.{Next, Bad}
+use Rattle.table.specs.Answers.{onwardOf}
+use Rattle.table.specs.declared.Onward.{Onward}
+use Rattle.table.specs.declared.Onward.the-variants.{To, Bad}
 
 -- A row of readings: one more, and one that fails.
 module _ {A : Type 0} (p : ℕ → Reading A) (from : ℕ) where
@@ -98,11 +98,11 @@ method-kept s lo hi from w w′ k e q j l =
     λ i. record { head = at b (omega arith) i; subs = d i }
 
 -- What a step says, carried on.
-pub step-map : {A B : Type 0} (f : A → B) (r : Step) (a : A) → then (stepOf r a) (λ x at. got (f x) at) ≡ stepOf r (f a)
-step-map f (Next at) a = refl
+pub step-map : {A B : Type 0} (f : A → B) (r : Onward) (a : A) → then (onwardOf r a) (λ x at. got (f x) at) ≡ onwardOf r (f a)
+step-map f (To at) a = refl
 step-map f (Bad why at) a = refl
 
-pub method-got : (s : List ℕ) (lo hi at : ℕ) {head n next from : ℕ} (r : Step) (xs : List ℕ) → ranged s lo hi 8 at ≡ got head next → ranged s 0 8 7 next ≡ got n from → stepOf r xs ≡ many (ranged s 0 hi 8) n from → readMethod s lo hi at ≡ stepOf r (record { head = head; subs = xs })
+pub method-got : (s : List ℕ) (lo hi at : ℕ) {head n next from : ℕ} (r : Onward) (xs : List ℕ) → ranged s lo hi 8 at ≡ got head next → ranged s 0 8 7 next ≡ got n from → onwardOf r xs ≡ many (ranged s 0 hi 8) n from → readMethod s lo hi at ≡ onwardOf r (record { head = head; subs = xs })
 unfolding readMethod
 method-got s lo hi at {head} r xs e f g = rw (e, f, ← g) (step-map {B = Method} (λ ys. record { head = head; subs = ys }) r xs)
 

@@ -1,7 +1,7 @@
 -- What the answers of the code say, as readings of the document.
 use Prim.Native.Nat.{ℕ, _+_, _-_}
 use mathlib.Core.List.{List}
-use Rattle.rules.specs.Readings.{Reading, got, bad, _>>=_, give}
+use Rattle.basics.specs.Readings.{Reading, got, bad, _>>=_, give}
 use Rattle.rules.specs.Numbers.{ranged}
 use Rattle.rules.specs.Tables.{Header, Action, allFacts}
 use Rattle.words.specs.Words.{actionRead}
@@ -10,8 +10,8 @@ use Rattle.table.specs.declared.OneAction.the-variants.{Got as GotAction
 use Rattle.table.specs.declared.Header.{Header as HeaderInCode}
 use Rattle.table.specs.declared.OneHeader.{OneHeader}
 use Rattle.table.specs.declared.OneHeader.the-variants.{Got as GotHeader, Bad as BadHeader}
-use Rattle.table.specs.declared.Step.{Step}
-use Rattle.table.specs.declared.Step.the-variants.{Next, Bad}
+use Rattle.table.specs.declared.Onward.{Onward}
+use Rattle.table.specs.declared.Onward.the-variants.{To, Bad}
 
 abbrev pub actOf : OneAction → Reading Action
 actOf (GotAction a at) = got (actionRead a) at
@@ -42,6 +42,6 @@ startGoal s facts actions abstracts methods = do
   give (record { facts = facts; actions = actions; abstracts = abstracts; methods = methods; start = start; init = init; goal = goal })
 
 -- What a step says of a value that it left in the words.
-abbrev pub stepOf : {A : Type 0} → Step → A → Reading A
-stepOf (Next at) a = got a at
-stepOf (Bad why at) a = bad why at
+abbrev pub onwardOf : {A : Type 0} → Onward → A → Reading A
+onwardOf (To at) a = got a at
+onwardOf (Bad why at) a = bad why at

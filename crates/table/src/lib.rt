@@ -4,12 +4,12 @@ use words::Action;
 ghost use mathlib.Core.Path.{_≡_};
 ghost use Prim.Native.Nat.{_+_, _-_, _*_, _^_, _≤_, _<_};
 ghost use lib.ListN.{length, take};
-ghost use Rattle.rules.specs.Lists.{rows};
-ghost use Rattle.rules.specs.Readings.{many};
+ghost use Rattle.basics.specs.Lists.{rows};
+ghost use Rattle.basics.specs.Readings.{many};
 ghost use Rattle.rules.specs.Numbers.{ranged};
 ghost use Rattle.rules.specs.Tables.{allFacts, header, readAction, readMethod, decode};
 ghost use Rattle.words.specs.Words.{headerOf, actionOf, cellOf, methodAt, methodOf, tableOf};
-ghost use Rattle.table.specs.Answers.{actOf, headerRead, headOf, startGoal, stepOf};
+ghost use Rattle.table.specs.Answers.{actOf, headerRead, headOf, startGoal, onwardOf};
 
 enum OneAction {
     Got(Action, usize),
@@ -43,22 +43,22 @@ fn read_action(s: &[u8], at: usize, top: u64) -> OneAction
     }
 }
 
-pub enum Step {
-    Next(usize),
+pub enum Onward {
+    To(usize),
     Bad(u64, usize),
 }
 
 // The actions, four words each from word 7 on.
-fn read_actions(s: &[u8], at: usize, words: &mut [u64], n: usize, top: u64) -> Step
+fn read_actions(s: &[u8], at: usize, words: &mut [u64], n: usize, top: u64) -> Onward
     requires { ⌜ 7 + 4 * n ≤ length (now words) ⌝ }
-    ensures { λ r. ⌜ (stepOf r (rows (actionOf (now (words .exit))) n) ≡ many (readAction (now (s .entry)) top) n at) × (take 7 (now (words .exit)) ≡ take 7 (now (words .entry))) ⌝ }
+    ensures { λ r. ⌜ (onwardOf r (rows (actionOf (now (words .exit))) n) ≡ many (readAction (now (s .entry)) top) n at) × (take 7 (now (words .exit)) ≡ take 7 (now (words .entry))) ⌝ }
 {
     let mut k: usize = 0;
     let mut p = at;
     while k < n {
         match read_action(s, p, top) {
             OneAction::Bad(why, q) => {
-                return Step::Bad(why, q);
+                return Onward::Bad(why, q);
             }
             OneAction::Got(a, next) => {
                 words::put_action(words, 7 + 4 * k, a);
@@ -67,20 +67,20 @@ fn read_actions(s: &[u8], at: usize, words: &mut [u64], n: usize, top: u64) -> S
             }
         }
     }
-    Step::Next(p)
+    Onward::To(p)
 }
 
 // n subtasks in the words from b on.
-fn read_subtasks(s: &[u8], at: usize, words: &mut [u64], b: usize, n: usize, hi: u64) -> Step
+fn read_subtasks(s: &[u8], at: usize, words: &mut [u64], b: usize, n: usize, hi: u64) -> Onward
     requires { ⌜ b + n ≤ length (now words) ⌝ }
-    ensures { λ r. ⌜ (stepOf r (rows (cellOf b (now (words .exit))) n) ≡ many (ranged (now (s .entry)) 0 hi 8) n at) × (take b (now (words .exit)) ≡ take b (now (words .entry))) ⌝ }
+    ensures { λ r. ⌜ (onwardOf r (rows (cellOf b (now (words .exit))) n) ≡ many (ranged (now (s .entry)) 0 hi 8) n at) × (take b (now (words .exit)) ≡ take b (now (words .entry))) ⌝ }
 {
     let mut j: usize = 0;
     let mut p = at;
     while j < n {
         match numbers::field(s, p, 0, hi, 8) {
             Num::Bad(why, q) => {
-                return Step::Bad(why, q);
+                return Onward::Bad(why, q);
             }
             Num::Got(v, next) => {
                 words[b + j] = v;
@@ -89,18 +89,18 @@ fn read_subtasks(s: &[u8], at: usize, words: &mut [u64], b: usize, n: usize, hi:
             }
         }
     }
-    Step::Next(p)
+    Onward::To(p)
 }
 
 // One method in the ten words from b on: head, count, subtasks.
-fn read_method(s: &[u8], at: usize, words: &mut [u64], b: usize, lo: u64, hi: u64) -> Step
+fn read_method(s: &[u8], at: usize, words: &mut [u64], b: usize, lo: u64, hi: u64) -> Onward
     requires { ⌜ b + 10 ≤ length (now words) ⌝ }
-    ensures { λ r. ⌜ (stepOf r (methodAt (now (words .exit)) b) ≡ readMethod (now (s .entry)) lo hi at) × (take b (now (words .exit)) ≡ take b (now (words .entry))) ⌝ }
+    ensures { λ r. ⌜ (onwardOf r (methodAt (now (words .exit)) b) ≡ readMethod (now (s .entry)) lo hi at) × (take b (now (words .exit)) ≡ take b (now (words .entry))) ⌝ }
 {
     match numbers::field(s, at, lo, hi, 8) {
-        Num::Bad(why, p) => Step::Bad(why, p),
+        Num::Bad(why, p) => Onward::Bad(why, p),
         Num::Got(head, p1) => match numbers::field(s, p1, 0, 8, 7) {
-            Num::Bad(why, p) => Step::Bad(why, p),
+            Num::Bad(why, p) => Onward::Bad(why, p),
             Num::Got(n, p2) => {
                 words[b] = head;
                 words[b + 1] = n;
@@ -111,24 +111,24 @@ fn read_method(s: &[u8], at: usize, words: &mut [u64], b: usize, lo: u64, hi: u6
 }
 
 // The methods, ten words each from word 1027 on.
-fn read_methods(s: &[u8], at: usize, words: &mut [u64], n: usize, lo: u64, hi: u64) -> Step
+fn read_methods(s: &[u8], at: usize, words: &mut [u64], n: usize, lo: u64, hi: u64) -> Onward
     requires { ⌜ 1027 + 10 * n ≤ length (now words) ⌝ }
-    ensures { λ r. ⌜ (stepOf r (rows (methodOf (now (words .exit))) n) ≡ many (readMethod (now (s .entry)) lo hi) n at) × (take 1027 (now (words .exit)) ≡ take 1027 (now (words .entry))) ⌝ }
+    ensures { λ r. ⌜ (onwardOf r (rows (methodOf (now (words .exit))) n) ≡ many (readMethod (now (s .entry)) lo hi) n at) × (take 1027 (now (words .exit)) ≡ take 1027 (now (words .entry))) ⌝ }
 {
     let mut k: usize = 0;
     let mut p = at;
     while k < n {
         match read_method(s, p, words, 1027 + 10 * k, lo, hi) {
-            Step::Bad(why, q) => {
-                return Step::Bad(why, q);
+            Onward::Bad(why, q) => {
+                return Onward::Bad(why, q);
             }
-            Step::Next(next) => {
+            Onward::To(next) => {
                 p = next;
                 k += 1;
             }
         }
     }
-    Step::Next(p)
+    Onward::To(p)
 }
 
 struct Header {
@@ -231,22 +231,22 @@ fn put_header(words: &mut [u64], h: Header)
 }
 
 // The whole table, into 6,147 words.
-pub fn read_table(s: &[u8], words: &mut [u64]) -> Step
+pub fn read_table(s: &[u8], words: &mut [u64]) -> Onward
     requires { ⌜ 6147 ≤ length (now words) ⌝ }
-    ensures { λ r. ⌜ stepOf r (tableOf (now (words .exit))) ≡ decode (now (s .entry)) ⌝ }
+    ensures { λ r. ⌜ onwardOf r (tableOf (now (words .exit))) ≡ decode (now (s .entry)) ⌝ }
 {
     match read_header(s) {
         OneHeader::Bad(why, q) => {
-            return Step::Bad(why, q);
+            return Onward::Bad(why, q);
         }
         OneHeader::Got(h, next) => {
             put_header(words, h);
             let top = all_facts(h.facts);
             match read_actions(s, next, words, h.actions as usize, top) {
-                Step::Bad(why, q) => {
-                    return Step::Bad(why, q);
+                Onward::Bad(why, q) => {
+                    return Onward::Bad(why, q);
                 }
-                Step::Next(p) => {
+                Onward::To(p) => {
                     match read_methods(
                         s,
                         p,
@@ -255,14 +255,14 @@ pub fn read_table(s: &[u8], words: &mut [u64]) -> Step
                         h.actions,
                         h.actions + h.abstracts - 1,
                     ) {
-                        Step::Bad(why, q) => {
-                            return Step::Bad(why, q);
+                        Onward::Bad(why, q) => {
+                            return Onward::Bad(why, q);
                         }
-                        Step::Next(e) => {
+                        Onward::To(e) => {
                             if e < s.len() {
-                                return Step::Bad(9, e);
+                                return Onward::Bad(9, e);
                             }
-                            return Step::Next(e);
+                            return Onward::To(e);
                         }
                     }
                 }

@@ -8,8 +8,8 @@ use native.Mathlib.Nat.{mul-suc, le-refl}
 use native.Mathlib.Decide.{decLt}
 use native.Mathlib.Omega.{arith}
 use borrow.Author.Tests.{lt-ltb, le-ltb}
-use Rattle.rules.specs.Lists.{upto}
-use Rattle.rules.specs.Texts.{digit, digits}
+use Rattle.basics.specs.Lists.{upto}
+use Rattle.basics.specs.Texts.{digit, digits}
 use Rattle.laws.proofs.TextLaws.{digits-one, digits-more}
 use Rattle.text.specs.Appends.{Appends}
 use Rattle.text.proofs.AppendLaws.{appends-is, appends-less, drop-take}

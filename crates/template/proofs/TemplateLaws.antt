@@ -7,8 +7,8 @@ use lib.Seq.{take-take, take-at, take-all, drop-append-le, length-take-le, getD-
 use native.Mathlib.Nat.{le-refl}
 use native.Mathlib.Decide.{decLt}
 use native.Mathlib.Omega.{arith}
-use Rattle.rules.specs.Lists.{upto, sumTo}
-use Rattle.rules.specs.Texts.{digits}
+use Rattle.basics.specs.Lists.{upto, sumTo}
+use Rattle.basics.specs.Texts.{digits}
 use Rattle.laws.proofs.ListLaws.{sum-same, sum-more}
 use Rattle.laws.proofs.TextLaws.{upto-more, upto-same}
 use Rattle.text.specs.Appends.{Appends}

@@ -5,7 +5,7 @@ use mathlib.Core.Bool.{cond}
 use mathlib.Core.List.{List, [], _∷_}
 use lib.Dec.{ltb}
 use lib.ListN.{take}
-use Rattle.rules.specs.Lists.{upto}
+use Rattle.basics.specs.Lists.{upto}
 
 unfoldable pub figure : ℕ → List ℕ
 figure n =

@@ -4,8 +4,8 @@ use Prim.Native.Nat.{ℕ, _+_, _-_, _≤_, _<_}
 use mathlib.Core.Path.{_≡_}
 use mathlib.Core.List.{List, _++_}
 use lib.ListN.{length, take, drop, getD}
-use Rattle.rules.specs.Lists.{upto, sumTo}
-use Rattle.rules.specs.Texts.{digits}
+use Rattle.basics.specs.Lists.{upto, sumTo}
+use Rattle.basics.specs.Texts.{digits}
 use Rattle.template.specs.declared.Pen.{Pen}
 
 -- Where segment j begins: the lengths of those before it.

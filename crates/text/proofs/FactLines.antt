@@ -4,7 +4,7 @@ use mathlib.Core.Bool.{true, false}
 use mathlib.Core.List.{[], _++_}
 use Prim.Native.Nat.{ℕ}
 use Rattle.rules.specs.Facts.{has}
-use Rattle.rules.specs.Texts.{bytes, digits}
+use Rattle.basics.specs.Texts.{bytes, digits}
 use Rattle.text.specs.Members.{memberLine}
 
 pub line-there : (s k : ℕ) → has s k ≡ true → memberLine s k ≡ digits k ++ bytes " 0\n"

@@ -5,7 +5,7 @@ use mathlib.Core.List.{List, [], _∷_, _++_}
 use native.Mathlib.Omega.{arith}
 use lib.ListN.{length, length-append}
 use lib.Dec.{T, leb, eqb, eqb→eq, eqb-refl}
-use Rattle.rules.specs.Answers.{valueOf}
+use Rattle.basics.specs.Answers.{valueOf}
 use Rattle.rules.specs.Tables.{Table, goalFacts}
 use Rattle.rules.specs.Facts.{holds}
 use Rattle.rules.specs.Progression.{Step, isEmpty, allAllowed, height, totalCost}
@@ -23,16 +23,16 @@ total-append t [] ys = omega arith
 total-append t (x ∷ xs) ys = omega (arith, total-append t xs ys)
 
 -- What the check of the lines `ls` from the place `p` is to find, if it accepts with these numbers.
-pub record Fulfils (f : ℕ) (t : Table) (b : ℕ) (p : Place) (ls : List Line) (c o k : ℕ) : Type 0 where
+pub record Fulfils (b f : ℕ) (t : Table) (p : Place) (ls : List Line) (c o k : ℕ) : Type 0 where
   pub shape : T (shaped ls)
   pub heights : TrueHeights f t (p .state) (opersOf ls)
-  pub run : Run t f b 0 (p .state) (expandAll f t (opersOf ls))
+  pub run : Run b f t 0 (p .state) (expandAll f t (opersOf ls))
   pub cost : c ≡ p .cost + totalCost t (expandAll f t (opersOf ls))
   pub operators : o ≡ p .operators + length (opersOf ls)
   pub steps : k ≡ p .steps + length (expandAll f t (opersOf ls))
 
-module _ (f : ℕ) (t : Table) (b : ℕ) where
-  pub complete : (ls : List Line) (p : Place) (c o k : ℕ) → T (leb (height (p .state)) b) → Fulfils f t b p ls c o k → checkFrom f t b p ls ≡ accepted c o k
+module _ (b f : ℕ) (t : Table) where
+  pub complete : (ls : List Line) (p : Place) (c o k : ℕ) → T (leb (height (p .state)) b) → Fulfils b f t p ls c o k → checkFrom b f t p ls ≡ accepted c o k
   complete [] p c o k l q =
       let c′ : p .cost ≡ c = omega (arith, q .cost) in
       let o′ : p .operators ≡ o = omega (arith, q .operators) in
@@ -45,16 +45,16 @@ module _ (f : ℕ) (t : Table) (b : ℕ) where
   complete (other ∷ ls) p c o k l q = absurd (q .shape)
   complete (oper x ∷ ls) p c o k l q =
       let s = p .state in
-      let r = run-back t f b (x .what) s (expandAll f t (opersOf ls)) (q .run) in
+      let r = run-back b f t (x .what) s (expandAll f t (opersOf ls)) (q .run) in
       let true-height : x .at ≡ height s = q .heights .0 in
-      let m : T (emitted f t b x) =
-      subst (λ (i : ℕ). T (emitted f t b (record { what = x .what; at = i }))) (sym true-height)
-      (low-emitted f t b (x .what) s l (r .each) (r .low))
+      let m : T (emitted b f t x) =
+      subst (λ (i : ℕ). T (emitted b f t (record { what = x .what; at = i }))) (sym true-height)
+      (low-emitted b f t (x .what) s l (r .each) (r .low))
       in
       let a : T (applies f t s x) =
       and-i (eqb (x .at) (height s)) (allAllowed t s (expand f t x)) (rw true-height (eqb-refl (height s))) (r .each)
       in
-      cond-true (emitted f t b x) _ _ m
+      cond-true (emitted b f t x) _ _ m
       ∙ cond-true (applies f t s x) _ _ a
       ∙ complete ls (apply f t p x) c o k (r .low)
       (record {
@@ -66,7 +66,7 @@ module _ (f : ℕ) (t : Table) (b : ℕ) where
         steps = omega (arith, q .steps, length-append (expand f t x) (expandAll f t (opersOf ls)));
       })
 
-  pub sound : (ls : List Line) (p : Place) (c o k : ℕ) → T (leb (height (p .state)) b) → checkFrom f t b p ls ≡ accepted c o k → Fulfils f t b p ls c o k
+  pub sound : (ls : List Line) (p : Place) (c o k : ℕ) → T (leb (height (p .state)) b) → checkFrom b f t p ls ≡ accepted c o k → Fulfils b f t p ls c o k
   sound [] p c o k l e =
       let q = check-passed (isEmpty (p .state .stack)) 14 (p .lines) _ e in
       let r = check-passed (holds (goalFacts t) (p .state .facts)) 15 (p .lines) _ (q .1) in
@@ -81,16 +81,16 @@ module _ (f : ℕ) (t : Table) (b : ℕ) where
   sound (other ∷ ls) p c o k l e = let z : _≡_ {A = ℕ} 0 1 = cc in absurd (omega arith)
   sound (oper x ∷ ls) p c o k l e =
       let s = p .state in
-      let q = check-passed (emitted f t b x) 12 (suc (p .lines)) _ e in
+      let q = check-passed (emitted b f t x) 12 (suc (p .lines)) _ e in
       let r = check-passed (applies f t s x) 13 (suc (p .lines)) _ (q .1) in
       let true-height : x .at ≡ height s = eqb→eq _ _ (and-l (eqb (x .at) (height s)) (allAllowed t s (expand f t x)) (r .0)) in
       let each : T (allAllowed t s (expand f t x)) = and-r (eqb (x .at) (height s)) (allAllowed t s (expand f t x)) (r .0) in
-      let low = emitted-low f t b (x .what) s each (subst (λ (i : ℕ). T (emitted f t b (record { what = x .what; at = i }))) true-height (q .0)) in
+      let low = emitted-low b f t (x .what) s each (subst (λ (i : ℕ). T (emitted b f t (record { what = x .what; at = i }))) true-height (q .0)) in
       let d = sound ls (apply f t p x) c o k low (r .1) in
       record {
         shape = d .shape;
         heights = (true-height, d .heights);
-        run = run-over t f b (x .what) s (expandAll f t (opersOf ls)) (record { each = each; low = low; rest = d .run });
+        run = run-over b f t (x .what) s (expandAll f t (opersOf ls)) (record { each = each; low = low; rest = d .run });
         cost = omega (arith, d .cost, total-append t (expand f t x) (expandAll f t (opersOf ls)));
         operators = omega (arith, d .operators);
         steps = omega (arith, d .steps, length-append (expand f t x) (expandAll f t (opersOf ls)));

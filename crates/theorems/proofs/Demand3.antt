@@ -7,8 +7,8 @@ use mathlib.Core.List.{List, [], _∷_, map}
 use native.Mathlib.Omega.{arith}
 use lib.ListN.{length}
 use lib.Dec.{T, leb, le→leb, leb→le}
-use Rattle.rules.specs.Answers.{Answer, answer, after}
-use Rattle.rules.specs.Readings.{Reading, got, bad}
+use Rattle.basics.specs.Answers.{Answer, answer, after}
+use Rattle.basics.specs.Readings.{Reading, got, bad}
 use Rattle.rules.specs.Tables.{Table, decode}
 use Rattle.rules.specs.Progression.{State, Step, act, mth, height, allowed, afterAll, begin, totalCost}
 use Rattle.rules.specs.Operators.{Operator, expand, expandAll}
@@ -46,19 +46,19 @@ known-small : (t : Table) → Valid t → (x : Step) → Known t x → numberOf 
 known-small t v (act k) h = omega (arith, v .head .actions)
 known-small t v (mth k) h = omega (arith, v .head .methods)
 
-small : (f : ℕ) (t : Table) (b : ℕ) → Valid t → b ≤ 64 → (os : List Operator) (s : State) → T (leb (height s) b) → TrueHeights f t s os
-    → Run t f b 0 s (expandAll f t os)
+small : (b f : ℕ) (t : Table) → Valid t → b ≤ 64 → (os : List Operator) (s : State) → T (leb (height s) b) → TrueHeights f t s os
+    → Run b f t 0 s (expandAll f t os)
     → Small os
-small f t b v l [] s e h r = tt
-small f t b v l (o ∷ os) s e h r =
-    let q = run-back t f b (o .what) s (expandAll f t os) r in (
+small b f t v l [] s e h r = tt
+small b f t v l (o ∷ os) s e h r =
+    let q = run-back b f t (o .what) s (expandAll f t os) r in (
       known-small t v (o .what) (known t s (o .what) (and-l (allowed t s (o .what)) _ (q .each))),
       omega (arith, leb→le (height s) b e, h .0),
-      small f t b v l os (afterAll t s (expand f t o)) (q .low) (h .1) (q .rest),
+      small b f t v l os (afterAll t s (expand f t o)) (q .low) (h .1) (q .rest),
     )
 
 -- The steps of a run are the table's, so each fits its word.
-numbered : (t : Table) → Valid t → (f b o : ℕ) (s : State) (xs : List Step) → Run t f b o s xs → Numbered xs
+numbered : (t : Table) → Valid t → (f b o : ℕ) (s : State) (xs : List Step) → Run b f t o s xs → Numbered xs
 numbered t v f b o s [] r = tt
 numbered t v f b o s (act k ∷ xs) r = let q = known t s (act k) (r .0) in (omega (arith, v .head .actions), numbered t v f b _ _ xs (r .2))
 numbered t v f b o s (mth k ∷ xs) r = let q = known t s (mth k) (r .0) in (omega (arith, v .head .methods), numbered t v f b _ _ xs (r .2))
@@ -74,7 +74,7 @@ accepted-given b f s plan c o k e =
     let q4 = check-passed (leb (length plan) 65536) 4 0 _ (q3 .1) in
     go (decode s) refl (q4 .1) (q1 .0) (q2 .0) (q3 .0) (q4 .0)
   where
-    go : (r : Reading Table) → decode s ≡ r → after (readOf r) (λ t. checkLines f t b (linesOf plan)) ≡ accepted c o k
+    go : (r : Reading Table) → decode s ≡ r → after (readOf r) (λ t. checkLines b f t (linesOf plan)) ≡ accepted c o k
         → T (leb 1 b && leb b 64) → T (leb f 1) → T (leb (length s) 32768) → T (leb (length plan) 65536)
         → (t : Table) × (n : ℕ) × Given b f s t n × (length plan ≤ 65536)
     go (got t n) d a h1 h2 h3 h4 = (
@@ -92,11 +92,11 @@ accepted-given b f s plan c o k e =
     go (bad why at) d a h1 h2 h3 h4 = refused why at a
 
 -- The check of lines, both ways.
-module _ (f : ℕ) (t : Table) (b : ℕ) (some : 1 ≤ b) (ls : List Line) (c o k : ℕ) where
-  accepted-lines : Accepted f t b ls c o k → checkLines f t b ls ≡ accepted c o k
+module _ (b f : ℕ) (t : Table) (some : 1 ≤ b) (ls : List Line) (c o k : ℕ) where
+  accepted-lines : Accepted b f t ls c o k → checkLines b f t ls ≡ accepted c o k
   unfolding checkLines
   accepted-lines q =
-      complete f t b ls _ c o k (le→leb 1 b some)
+      complete b f t ls _ c o k (le→leb 1 b some)
       (record {
         shape = q .shape;
         heights = q .heights;
@@ -106,10 +106,10 @@ module _ (f : ℕ) (t : Table) (b : ℕ) (some : 1 ≤ b) (ls : List Line) (c o 
         steps = omega (arith, q .steps);
       })
 
-  lines-accepted : checkLines f t b ls ≡ accepted c o k → Accepted f t b ls c o k
+  lines-accepted : checkLines b f t ls ≡ accepted c o k → Accepted b f t ls c o k
   unfolding checkLines
   lines-accepted e =
-      let q = sound f t b ls _ c o k (le→leb 1 b some) e in
+      let q = sound b f t ls _ c o k (le→leb 1 b some) e in
       record {
         shape = q .shape;
         heights = q .heights;
@@ -130,22 +130,22 @@ module _ {b f : ℕ} {s : List ℕ} {t : Table} {n : ℕ} (g : Given b f s t n) 
       ∙ cond-true (leb (length plan) 65536) _ _ (le→leb (length plan) 65536 l)
       ∙ ap (λ r. after (readOf r) rest) (g .reads)
 
-  checks : (plan : List ℕ) → length plan ≤ 65536 → checkPlan b f s plan ≡ checkLines f t b (linesOf plan)
+  checks : (plan : List ℕ) → length plan ≤ 65536 → checkPlan b f s plan ≡ checkLines b f t (linesOf plan)
   unfolding checkPlan
-  checks plan l = in-range plan l (λ t. checkLines f t b (linesOf plan))
+  checks plan l = in-range plan l (λ t. checkLines b f t (linesOf plan))
 
   table-valid : Valid t
   table-valid = valid s t n (g .reads)
 
   -- (a) The check accepts exactly these plans, with these numbers.
-  pub accepts : (plan : List ℕ) → length plan ≤ 65536 → (c o k : ℕ) → (checkPlan b f s plan ≡ accepted c o k) ↔ Accepted f t b (linesOf plan) c o k
+  pub accepts : (plan : List ℕ) → length plan ≤ 65536 → (c o k : ℕ) → (checkPlan b f s plan ≡ accepted c o k) ↔ Accepted b f t (linesOf plan) c o k
   accepts plan l c o k = (
-    (λ e. lines-accepted f t b (g .low) (linesOf plan) c o k (sym (checks plan l) ∙ e)),
-    (λ a. checks plan l ∙ accepted-lines f t b (g .low) (linesOf plan) c o k a),
+    (λ e. lines-accepted b f t (g .low) (linesOf plan) c o k (sym (checks plan l) ∙ e)),
+    (λ a. checks plan l ∙ accepted-lines b f t (g .low) (linesOf plan) c o k a),
   )
 
   -- (b) Each complete run has exactly one list of operators.
-  pub one-list : (xs : List Step) → CompleteRun t f b xs → (os : List Operator) × ListOf f t xs os × ((os′ : List Operator) → ListOf f t xs os′ → os′ ≡ os)
+  pub one-list : (xs : List Step) → CompleteRun b f t xs → (os : List Operator) × ListOf f t xs os × ((os′ : List Operator) → ListOf f t xs os′ → os′ ≡ os)
   one-list xs r =
       let q = exists f t table-valid b xs (begin t) (r .1) in (
         operators f t 0 (begin t) xs,
@@ -154,15 +154,15 @@ module _ {b f : ℕ} {s : List ℕ} {t : Table} {n : ℕ} (g : Given b f s t n) 
       )
 
   -- (c) The text of that list is accepted, with the run's cost, operators and steps.
-  pub run-accepted : (xs : List Step) → CompleteRun t f b xs → (os : List Operator) → ListOf f t xs os → length (textsOf os) ≤ 65536
+  pub run-accepted : (xs : List Step) → CompleteRun b f t xs → (os : List Operator) → ListOf f t xs os → length (textsOf os) ≤ 65536
       → checkPlan b f s (textsOf os) ≡ accepted (totalCost t xs) (length os) (length xs)
   run-accepted xs r os h l =
       let q = h .heights in
       let e = h .expands in
-      let z : CompleteRun t f b (expandAll f t os) = rw e r in
+      let z : CompleteRun b f t (expandAll f t os) = rw e r in
       checks (textsOf os) l
-      ∙ ap (checkLines f t b) (lines-of os (small f t b table-valid (g .high) os (begin t) (le→leb 1 b (g .low)) q (z .1)))
-      ∙ accepted-lines f t b (g .low) (map oper os) _ _ _
+      ∙ ap (checkLines b f t) (lines-of os (small b f t table-valid (g .high) os (begin t) (le→leb 1 b (g .low)) q (z .1)))
+      ∙ accepted-lines b f t (g .low) (map oper os) _ _ _
       (record {
         shape = opers-shaped os;
         heights = rw (opers os) q;
@@ -174,7 +174,7 @@ module _ {b f : ℕ} {s : List ℕ} {t : Table} {n : ℕ} (g : Given b f s t n) 
 
   module _ (plan : List ℕ) (l : length plan ≤ 65536) (c o k : ℕ) (e : checkPlan b f s plan ≡ accepted c o k) where
     -- Its lines pass the check of lines.
-    pub lines-pass : checkLines f t b (linesOf plan) ≡ accepted c o k
+    pub lines-pass : checkLines b f t (linesOf plan) ≡ accepted c o k
     lines-pass = sym (checks plan l) ∙ e
 
     -- (d) An accepted plan's actions are a solution, and the cost reported is their summed cost.
@@ -182,7 +182,7 @@ module _ {b f : ℕ} {s : List ℕ} {t : Table} {n : ℕ} (g : Given b f s t n) 
     solves =
         let q = accepts plan l c o k .0 e in
         let xs = expandAll f t (opersOf (linesOf plan)) in
-        (solution f t b xs (q .run .1), q .cost ∙ costs t xs)
+        (solution b f t xs (q .run .1), q .cost ∙ costs t xs)
 
     -- (e) It expands to the bytes of its steps, two for each.
     pub expansion-length : length (stepBytes (expandAll f t (opersOf (linesOf plan)))) ≡ 2 * k
@@ -191,7 +191,7 @@ module _ {b f : ℕ} {s : List ℕ} {t : Table} {n : ℕ} (g : Given b f s t n) 
     pub expansion-is : (size : ℕ) → expandPlan b f s plan size ≡ roomFor size 0 (stepBytes (expandAll f t (opersOf (linesOf plan))))
     unfolding expandPlan
     expansion-is size =
-        in-range plan l (λ t. after (checkLines f t b (linesOf plan)) (λ _. roomFor size 0 (stepBytes (expandAll f t (opersOf (linesOf plan))))))
+        in-range plan l (λ t. after (checkLines b f t (linesOf plan)) (λ _. roomFor size 0 (stepBytes (expandAll f t (opersOf (linesOf plan))))))
         ∙ ap (λ (a : Answer Tally). after a (λ _. roomFor size 0 (stepBytes (expandAll f t (opersOf (linesOf plan)))))) (sym (checks plan l) ∙ e)
 
     pub expansion : (size : ℕ) → 2 * k ≤ size → expandPlan b f s plan size ≡ answer (stepBytes (expandAll f t (opersOf (linesOf plan))))

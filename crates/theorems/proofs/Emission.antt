@@ -7,7 +7,7 @@ use mathlib.Core.Bool.{Bool, true, false, not, cond}
 use native.Mathlib.Omega.{arith}
 use lib.Dec.{T, leb, ltb, eqb, leb→le, le→leb, ltb→lt, T-not}
 use borrow.Author.Tests.{lt-ltb, le-ltb, eq-eqb, eqb-true, eqb-false}
-use Rattle.rules.specs.Lists.{rows}
+use Rattle.basics.specs.Lists.{rows}
 use Rattle.rules.specs.Tables.{Table, factCount, actionCount, methodCount, method}
 use Rattle.rules.specs.Facts.{without, joinFrom, joinOf, membersFrom, membersOf}
 use Rattle.rules.specs.Progression.{act, mth, prefix, remain}
@@ -35,55 +35,55 @@ unguarded : (c : Bool) (n i : ℕ) → 1 ≤ i → i ≤ cond c 0 n → T (not c
 unguarded true n i l h = absurd (omega arith)
 unguarded false n i l h = (tt, h)
 
-module _ (f : ℕ) (t : Table) (b k i : ℕ) where
+module _ (b f : ℕ) (t : Table) (k i : ℕ) where
   -- "Action operators exist at every position."
-  pub action-emitted : T (emitted f t b (record { what = act k; at = i })) ↔ ((k < actionCount t) × (1 ≤ i) × (i ≤ b))
+  pub action-emitted : T (emitted b f t (record { what = act k; at = i })) ↔ ((k < actionCount t) × (1 ≤ i) × (i ≤ b))
   unfolding positions
   action-emitted = (
     (λ h.
-        let l = leb→le 1 i (and-l (leb 1 i) (leb i (positions f t b (act k))) h) in
-        let q = guarded (ltb k (actionCount t)) b i l (leb→le i (positions f t b (act k)) (and-r (leb 1 i) (leb i (positions f t b (act k))) h)) in
+        let l = leb→le 1 i (and-l (leb 1 i) (leb i (positions b f t (act k))) h) in
+        let q = guarded (ltb k (actionCount t)) b i l (leb→le i (positions b f t (act k)) (and-r (leb 1 i) (leb i (positions b f t (act k))) h)) in
         (ltb→lt _ _ (q .0), l, q .1)),
-    (λ h. and-i (leb 1 i) (leb i (positions f t b (act k))) (le→leb 1 i (h .1)) (rw (lt-ltb k (actionCount t) (h .0)) (le→leb i b (h .2)))),
+    (λ h. and-i (leb 1 i) (leb i (positions b f t (act k))) (le→leb 1 i (h .1)) (rw (lt-ltb k (actionCount t) (h .0)) (le→leb i b (h .2)))),
   )
 
   -- "Method operators exist at 1 to b if r = 0, otherwise at 1 to b − r + 1 (none if that is below 1). A dead method has none."
-  pub method-emitted : T (emitted f t b (record { what = mth k; at = i }))
+  pub method-emitted : T (emitted b f t (record { what = mth k; at = i }))
       ↔ ((k < methodCount t) × T (not (joined f t (mth k) .dead)) × (1 ≤ i) × (i ≤ b) × (i + remain f t k ≤ b + 1))
   unfolding positions
   method-emitted = (
     (λ h.
-        let l = leb→le 1 i (and-l (leb 1 i) (leb i (positions f t b (mth k))) h) in
-        let u = leb→le i (positions f t b (mth k)) (and-r (leb 1 i) (leb i (positions f t b (mth k))) h) in
+        let l = leb→le 1 i (and-l (leb 1 i) (leb i (positions b f t (mth k))) h) in
+        let u = leb→le i (positions b f t (mth k)) (and-r (leb 1 i) (leb i (positions b f t (mth k))) h) in
         let q = guarded (ltb k (methodCount t)) (cond (joined f t (mth k) .dead) 0 (highest b (remain f t k))) i l u in
         let r = unguarded (joined f t (mth k) .dead) (highest b (remain f t k)) i l (q .1) in
         let w = within-highest b (remain f t k) i (eqb (remain f t k) 0) refl l (r .1) in
         (ltb→lt _ _ (q .0), r .0, l, w .0, w .1)),
     (λ h.
         let w = highest-within b (remain f t k) i (eqb (remain f t k) 0) refl (h .3) (h .4) in
-        and-i (leb 1 i) (leb i (positions f t b (mth k))) (le→leb 1 i (h .2))
+        and-i (leb 1 i) (leb i (positions b f t (mth k))) (le→leb 1 i (h .2))
         (rw (lt-ltb k (methodCount t) (h .0), cond-false (joined f t (mth k) .dead) 0 (highest b (remain f t k)) (h .1)) (le→leb i (highest b (remain f t k)) w))),
   )
 
   -- The same, case by case: r = 0, r > 0, r > b, dead.
   pub none-stays : k < methodCount t → T (not (joined f t (mth k) .dead)) → remain f t k ≡ 0
-      → T (emitted f t b (record { what = mth k; at = i })) ↔ ((1 ≤ i) × (i ≤ b))
+      → T (emitted b f t (record { what = mth k; at = i })) ↔ ((1 ≤ i) × (i ≤ b))
   none-stays m d z = (
     (λ h. let q = method-emitted .0 h in (q .2, omega (arith, q .3))),
     (λ h. method-emitted .1 (m, d, h .0, omega (arith, h .1), omega (arith, h .1))),
   )
 
   pub some-stay : k < methodCount t → T (not (joined f t (mth k) .dead)) → 0 < remain f t k
-      → T (emitted f t b (record { what = mth k; at = i })) ↔ ((1 ≤ i) × (i + remain f t k ≤ b + 1))
+      → T (emitted b f t (record { what = mth k; at = i })) ↔ ((1 ≤ i) × (i + remain f t k ≤ b + 1))
   some-stay m d p = (
     (λ h. let q = method-emitted .0 h in (q .2, q .4)),
     (λ h. method-emitted .1 (m, d, h .0, omega (arith, h .1), h .1)),
   )
 
-  pub too-many-stay : b < remain f t k → T (emitted f t b (record { what = mth k; at = i })) → ⊥
+  pub too-many-stay : b < remain f t k → T (emitted b f t (record { what = mth k; at = i })) → ⊥
   too-many-stay p h = let q = method-emitted .0 h in omega (arith, q .2, q .4)
 
-  pub dead-nowhere : T (joined f t (mth k) .dead) → T (emitted f t b (record { what = mth k; at = i })) → ⊥
+  pub dead-nowhere : T (joined f t (mth k) .dead) → T (emitted b f t (record { what = mth k; at = i })) → ⊥
   dead-nowhere d h = T-not (joined f t (mth k) .dead) (method-emitted .0 h .1) d
 
 -- In the plain form no method is dead.

@@ -2,13 +2,13 @@
 use Prim.Native.Nat.{ℕ}
 use mathlib.Core.Path.{_≡_, refl}
 use mathlib.Core.List.{List, [], _∷_}
-use Rattle.rules.specs.Answers.{answer, refusal}
-use Rattle.rules.specs.Readings.{many}
+use Rattle.basics.specs.Answers.{answer, refusal}
+use Rattle.basics.specs.Readings.{many}
 use Rattle.rules.specs.Numbers.{run, spell, sound, numberAt, inRange, ranged}
 use Rattle.rules.specs.Tables.{header, readAction, readMethod, closed, decode}
 use Rattle.rules.specs.Facts.{without, joinOne, joinFrom, joinOf}
 use Rattle.rules.specs.Operators.{joined, positions}
-use Rattle.rules.specs.Texts.{bytes}
+use Rattle.basics.specs.Texts.{bytes}
 use Rattle.rules.specs.Plans.{linesOf}
 use Rattle.rules.specs.Checks.{accepted, checkLines, stepBytes}
 use Rattle.rules.specs.LeastBounds.{leastBound}

@@ -7,8 +7,8 @@ use native.Mathlib.Nat.{zero-add}
 use native.Mathlib.Omega.{arith}
 use lib.ListN.{length}
 use lib.Dec.{leb}
-use Rattle.rules.specs.Answers.{Answer, answer, refusal, check, after, lengthOf}
-use Rattle.rules.specs.Readings.{Reading, got, bad}
+use Rattle.basics.specs.Answers.{Answer, answer, refusal, check, after, lengthOf}
+use Rattle.basics.specs.Readings.{Reading, got, bad}
 use Rattle.rules.specs.Tables.{Table, decode}
 use Rattle.rules.specs.Operators.{expandAll}
 use Rattle.rules.specs.Plans.{linesOf, opersOf}
@@ -29,8 +29,8 @@ expansion-refused b f s plan size number place =
     room t _ = roomFor size 0 (stepBytes (expandAll f t (opersOf (linesOf plan))))
 
     go : (x y z w : Bool) (r : Reading Table)
-        → check x 1 0 (check y 2 0 (check z 3 0 (check w 4 0 (after (readOf r) (λ t. checkLines f t b (linesOf plan)))))) ≡ refusal number place
-        → check x 1 0 (check y 2 0 (check z 3 0 (check w 4 0 (after (readOf r) (λ t. after (checkLines f t b (linesOf plan)) (room t))))))
+        → check x 1 0 (check y 2 0 (check z 3 0 (check w 4 0 (after (readOf r) (λ t. checkLines b f t (linesOf plan)))))) ≡ refusal number place
+        → check x 1 0 (check y 2 0 (check z 3 0 (check w 4 0 (after (readOf r) (λ t. after (checkLines b f t (linesOf plan)) (room t))))))
         ≡ refusal number place
     go true true true true (got t at) e = ap (λ (a : Answer Tally). after a (room t)) e
     go true true true true (bad why at) e = cc

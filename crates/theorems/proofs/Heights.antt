@@ -52,7 +52,7 @@ pub known : (t : Table) (s : State) (x : Step) → T (allowed t s x) → Known t
 known t s (act k) h = ltb→lt k (actionCount t) (and-l (ltb k (actionCount t)) (onTop k (s .stack)) (fits-of t s (act k) h))
 known t s (mth k) h = ltb→lt k (methodCount t) (and-l (ltb k (methodCount t)) (onTop (method t k .head) (s .stack)) (fits-of t s (mth k) h))
 
-module _ (f : ℕ) (t : Table) (b : ℕ) where
+module _ (b f : ℕ) (t : Table) where
   -- A method's steps, from a height to their end: one task is popped and r stay.
   ends : (k : ℕ) (s : State) → T (allAllowed t s (mth k ∷ map act (prefix f t k)))
       → suc (height (afterAll t s (mth k ∷ map act (prefix f t k)))) ≡ height s + remain f t k
@@ -68,28 +68,28 @@ module _ (f : ℕ) (t : Table) (b : ℕ) where
 
   -- An emitted operator at its true height, if it is allowed, ends within the bound.
   pub emitted-low : (x : Step) (s : State) → T (allAllowed t s (x ∷ map act (company f t x)))
-      → T (emitted f t b (record { what = x; at = height s }))
+      → T (emitted b f t (record { what = x; at = height s }))
       → T (leb (height (afterAll t s (x ∷ map act (company f t x)))) b)
   emitted-low (act k) s h e =
-      let q = action-emitted f t b k (height s) .0 e in
+      let q = action-emitted b f t k (height s) .0 e in
       le→leb _ b (omega (arith, act-pops t k s (and-l (allowed t s (act k)) _ h), q .2))
   emitted-low (mth k) s h e =
-      let q = method-emitted f t b k (height s) .0 e in
+      let q = method-emitted b f t k (height s) .0 e in
       le→leb _ b (omega (arith, ends k s h, q .3, q .4))
 
   -- An allowed operator that starts and ends within the bound is emitted: a dead one is never allowed.
   pub low-emitted : (x : Step) (s : State) → T (leb (height s) b) → T (allAllowed t s (x ∷ map act (company f t x)))
       → T (leb (height (afterAll t s (x ∷ map act (company f t x)))) b)
-      → T (emitted f t b (record { what = x; at = height s }))
+      → T (emitted b f t (record { what = x; at = height s }))
   low-emitted (act k) s l h e =
       let a : T (allowed t s (act k)) = and-l (allowed t s (act k)) _ h in
-      action-emitted f t b k (height s) .1 (known t s (act k) a, omega (arith, act-pops t k s a), leb→le _ _ l)
+      action-emitted b f t k (height s) .1 (known t s (act k) a, omega (arith, act-pops t k s a), leb→le _ _ l)
   low-emitted (mth k) s l h e =
       let s′ = next t s (mth k) in
       let ks = prefix f t k in
       let a : T (allowed t s (mth k)) = and-l (allowed t s (mth k)) (allAllowed t s′ (map act ks)) h in
       let o = on-top (method t k .head) (s .stack) (and-r (ltb k (methodCount t)) (onTop (method t k .head) (s .stack)) (fits-of t s (mth k) a)) in
-      method-emitted f t b k (height s) .1 (
+      method-emitted b f t k (height s) .1 (
         known t s (mth k) a,
         living f t k s′ (and-r (allowed t s (mth k)) (allAllowed t s′ (map act ks)) h),
         omega (arith, o),

@@ -6,7 +6,7 @@ use mathlib.Core.List.{List, [], _∷_, List·Memᴰ, List·Memᴰ·head, List·
 use native.Mathlib.Omega.{arith}
 use native.Mathlib.Nat.{eq-or-lt-of-le}
 use lib.Dec.{T, leb, leb→le, le→leb}
-use Rattle.rules.specs.Lists.{rows, upto}
+use Rattle.basics.specs.Lists.{rows, upto}
 use Rattle.rules.specs.Tables.{Table, actionCount, methodCount}
 use Rattle.rules.specs.Progression.{Step, act, mth}
 use Rattle.rules.specs.Operators.{Operator, positions, emitted, risingFrom1, operatorsOf}
@@ -47,35 +47,35 @@ module _ {A : Type 0} {x : A} (f : ℕ → List A) where
       (λ m. Memᴰ·append-left (f n) (in-upto n k m e))
       (eq-or-lt-of-le {n = k} {m = n} (omega arith))
 
-module _ (f : ℕ) (t : Table) (b : ℕ) where
+module _ (b f : ℕ) (t : Table) where
   -- The operators of one step, and those that are emitted of it.
-  of-step : (x : Step) (o : Operator) → List·Memᴰ o (risingFrom1 x (positions f t b x)) → T (emitted f t b o)
+  of-step : (x : Step) (o : Operator) → List·Memᴰ o (risingFrom1 x (positions b f t x)) → T (emitted b f t o)
   of-step x o m =
-      let q = of-rows (λ i. record { what = x; at = suc i }) (positions f t b x) m in
-      subst (λ (p : Operator). T (emitted f t b p)) (sym (q .2))
-      (and-i (leb 1 (suc (q .0))) (leb (suc (q .0)) (positions f t b x)) (le→leb 1 (suc (q .0)) (omega arith)) (le→leb (suc (q .0)) (positions f t b x) (omega (arith, q .1))))
+      let q = of-rows (λ i. record { what = x; at = suc i }) (positions b f t x) m in
+      subst (λ (p : Operator). T (emitted b f t p)) (sym (q .2))
+      (and-i (leb 1 (suc (q .0))) (leb (suc (q .0)) (positions b f t x)) (le→leb 1 (suc (q .0)) (omega arith)) (le→leb (suc (q .0)) (positions b f t x) (omega (arith, q .1))))
 
-  in-step : (x : Step) (i : ℕ) → T (emitted f t b (record { what = x; at = i })) → List·Memᴰ (record { what = x; at = i }) (risingFrom1 x (positions f t b x))
+  in-step : (x : Step) (i : ℕ) → T (emitted b f t (record { what = x; at = i })) → List·Memᴰ (record { what = x; at = i }) (risingFrom1 x (positions b f t x))
   in-step x i h =
-      let l = leb→le 1 i (and-l (leb 1 i) (leb i (positions f t b x)) h) in
-      let u = leb→le i (positions f t b x) (and-r (leb 1 i) (leb i (positions f t b x)) h) in
+      let l = leb→le 1 i (and-l (leb 1 i) (leb i (positions b f t x)) h) in
+      let u = leb→le i (positions b f t x) (and-r (leb 1 i) (leb i (positions b f t x)) h) in
       let e : i ≡ suc (i - 1) = omega arith in
-      in-rows (λ i. record { what = x; at = suc i }) (positions f t b x) (i - 1) (omega arith) (λ j. record { what = x; at = e j })
+      in-rows (λ i. record { what = x; at = suc i }) (positions b f t x) (i - 1) (omega arith) (λ j. record { what = x; at = e j })
 
-  pub listed : (o : Operator) → List·Memᴰ o (operatorsOf f t b) ↔ T (emitted f t b o)
+  pub listed : (o : Operator) → List·Memᴰ o (operatorsOf b f t) ↔ T (emitted b f t o)
   unfolding operatorsOf
   listed o = (
     (λ m. ⊎-elim
-        (λ l. let q = of-upto (λ k. risingFrom1 (act k) (positions f t b (act k))) (actionCount t) l in of-step (act (q .0)) o (q .2))
-        (λ r. let q = of-upto (λ k. risingFrom1 (mth k) (positions f t b (mth k))) (methodCount t) r in of-step (mth (q .0)) o (q .2))
-        (List·Memᴰ·append-cases (upto (λ k. risingFrom1 (act k) (positions f t b (act k))) (actionCount t)) m)),
+        (λ l. let q = of-upto (λ k. risingFrom1 (act k) (positions b f t (act k))) (actionCount t) l in of-step (act (q .0)) o (q .2))
+        (λ r. let q = of-upto (λ k. risingFrom1 (mth k) (positions b f t (mth k))) (methodCount t) r in of-step (mth (q .0)) o (q .2))
+        (List·Memᴰ·append-cases (upto (λ k. risingFrom1 (act k) (positions b f t (act k))) (actionCount t)) m)),
     (λ h. go (o .what) (o .at) h),
   )
     where
-      go : (x : Step) (i : ℕ) → T (emitted f t b (record { what = x; at = i })) → List·Memᴰ (record { what = x; at = i }) (operatorsOf f t b)
+      go : (x : Step) (i : ℕ) → T (emitted b f t (record { what = x; at = i })) → List·Memᴰ (record { what = x; at = i }) (operatorsOf b f t)
       go (act k) i h =
-          Memᴰ·append-left (upto (λ k. risingFrom1 (mth k) (positions f t b (mth k))) (methodCount t))
-          (in-upto (λ k. risingFrom1 (act k) (positions f t b (act k))) (actionCount t) k (action-emitted f t b k i .0 h .0) (in-step (act k) i h))
+          Memᴰ·append-left (upto (λ k. risingFrom1 (mth k) (positions b f t (mth k))) (methodCount t))
+          (in-upto (λ k. risingFrom1 (act k) (positions b f t (act k))) (actionCount t) k (action-emitted b f t k i .0 h .0) (in-step (act k) i h))
       go (mth k) i h =
-          Memᴰ·append-right (upto (λ k. risingFrom1 (act k) (positions f t b (act k))) (actionCount t))
-          (in-upto (λ k. risingFrom1 (mth k) (positions f t b (mth k))) (methodCount t) k (method-emitted f t b k i .0 h .0) (in-step (mth k) i h))
+          Memᴰ·append-right (upto (λ k. risingFrom1 (act k) (positions b f t (act k))) (actionCount t))
+          (in-upto (λ k. risingFrom1 (mth k) (positions b f t (mth k))) (methodCount t) k (method-emitted b f t k i .0 h .0) (in-step (mth k) i h))

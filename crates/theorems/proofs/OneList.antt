@@ -70,7 +70,7 @@ record Parsed (f : ℕ) (t : Table) (o : ℕ) (s : State) (xs : List Step) : Typ
   heights : TrueHeights f t (afterAll t s (take o xs)) (operators f t o s xs)
 
 module _ (f : ℕ) (t : Table) (valid : Valid t) (b : ℕ) where
-  parse : (xs : List Step) (o fa : ℕ) (st : List ℕ) → Owed (actionCount t) o st → Run t f b o (record { facts = fa; stack = st }) xs
+  parse : (xs : List Step) (o fa : ℕ) (st : List ℕ) → Owed (actionCount t) o st → Run b f t o (record { facts = fa; stack = st }) xs
       → Parsed f t o (record { facts = fa; stack = st }) xs
   parse [] zero fa st w r = record { first = refl; rest = refl; heights = tt }
   parse [] (suc o) fa [] w r = absurd w
@@ -100,6 +100,6 @@ module _ (f : ℕ) (t : Table) (valid : Valid t) (b : ℕ) where
       }
 
   -- At least one: the operators of a run's steps expand to the run, each at its true height.
-  pub exists : (xs : List Step) (s : State) → Run t f b 0 s xs
+  pub exists : (xs : List Step) (s : State) → Run b f t 0 s xs
       → (expandAll f t (operators f t 0 s xs) ≡ xs) × TrueHeights f t s (operators f t 0 s xs)
   exists xs s r = let q = parse xs 0 (s .facts) (s .stack) tt r in (q .rest, q .heights)

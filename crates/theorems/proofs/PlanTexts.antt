@@ -8,7 +8,7 @@ use borrow.Author.Tests.{ne-eqb, lt-ltb, le-ltb, ltb-true, ltb-false}
 use lib.Dec.{T, eqb, leb, ltb, le→leb}
 use Rattle.rules.specs.Progression.{Step, act, mth}
 use Rattle.rules.specs.Operators.{Operator}
-use Rattle.rules.specs.Texts.{bytes, digit, digitsF, digits}
+use Rattle.basics.specs.Texts.{bytes, digit, digitsF, digits}
 use Rattle.rules.specs.Sections.{nameOf}
 use Rattle.rules.specs.Plans.{oper, isDigit, read, more, number, position, named, lineOf, linesOf, textOf, textsOf}
 use Rattle.laws.proofs.TestLaws.{and-l, and-r, and-i, cond-true, cond-false}

@@ -10,14 +10,14 @@ use Rattle.theorems.specs.Runs.{resting, Run}
 use Rattle.laws.proofs.TestLaws.{and-l, and-r, and-i}
 
 -- The steps xs, after which nothing is due, are allowed; the state after them is holds the bound; and the run goes on from there.
-pub record Passed (t : Table) (f b : ℕ) (s : State) (xs ys : List Step) : Type 0 where
+pub record Passed (b f : ℕ) (t : Table) (s : State) (xs ys : List Step) : Type 0 where
   pub each : T (allAllowed t s xs)
   pub low : T (leb (height (afterAll t s xs)) b)
-  pub rest : Run t f b 0 (afterAll t s xs) ys
+  pub rest : Run b f t 0 (afterAll t s xs) ys
 
-module _ (t : Table) (f b : ℕ) where
-  back : (ks : List ℕ) (s : State) (ys : List Step) → T (resting b (length ks) s) → Run t f b (length ks) s (map act ks ++ ys)
-      → Passed t f b s (map act ks) ys
+module _ (b f : ℕ) (t : Table) where
+  back : (ks : List ℕ) (s : State) (ys : List Step) → T (resting b (length ks) s) → Run b f t (length ks) s (map act ks ++ ys)
+      → Passed b f t s (map act ks) ys
   back [] s ys h r = record { each = tt; low = h; rest = r }
   back (k ∷ ks) s ys h r =
       let s′ = next t s (act k) in
@@ -26,7 +26,7 @@ module _ (t : Table) (f b : ℕ) where
       { each = search (and-i, r .0, q .each); low = q .low; rest = q .rest }
 
   -- A run over an operator's steps, from a resting point, there and back.
-  pub run-back : (x : Step) (s : State) (ys : List Step) → Run t f b 0 s (x ∷ map act (company f t x) ++ ys) → Passed t f b s (x ∷ map act (company f t x)) ys
+  pub run-back : (x : Step) (s : State) (ys : List Step) → Run b f t 0 s (x ∷ map act (company f t x) ++ ys) → Passed b f t s (x ∷ map act (company f t x)) ys
   run-back (act k) s ys r = back (k ∷ []) s ys tt r
   run-back (mth k) s ys r =
       let s′ = next t s (mth k) in
@@ -39,7 +39,7 @@ module _ (t : Table) (f b : ℕ) where
   at-rest [] s h = h
   at-rest (k ∷ ks) s h = tt
 
-  over : (ks : List ℕ) (s : State) (ys : List Step) → Passed t f b s (map act ks) ys → Run t f b (length ks) s (map act ks ++ ys)
+  over : (ks : List ℕ) (s : State) (ys : List Step) → Passed b f t s (map act ks) ys → Run b f t (length ks) s (map act ks ++ ys)
   over [] s ys p = p .rest
   over (k ∷ ks) s ys p =
       let s′ = next t s (act k) in (
@@ -48,7 +48,7 @@ module _ (t : Table) (f b : ℕ) where
         over ks s′ ys (record { each = search (and-r, p .each); low = p .low; rest = p .rest }),
       )
 
-  pub run-over : (x : Step) (s : State) (ys : List Step) → Passed t f b s (x ∷ map act (company f t x)) ys → Run t f b 0 s (x ∷ map act (company f t x) ++ ys)
+  pub run-over : (x : Step) (s : State) (ys : List Step) → Passed b f t s (x ∷ map act (company f t x)) ys → Run b f t 0 s (x ∷ map act (company f t x) ++ ys)
   run-over (act k) s ys p = over (k ∷ []) s ys p
   run-over (mth k) s ys p =
       let s′ = next t s (mth k) in

@@ -8,12 +8,12 @@ use native.Mathlib.Omega.{arith}
 use lib.Dec.{T, ltb, eqb}
 use lib.ListN.{length, getD, length-append, length-map, List·getD-eq-default}
 use lib.Seq.{getD-drop}
-use Rattle.rules.specs.Lists.{rows, concat}
+use Rattle.basics.specs.Lists.{rows, concat}
 use Rattle.rules.specs.Tables.{Table, factCount, taskCount, methodCount, startFacts, goalFacts, method}
 use Rattle.rules.specs.Facts.{Join, has, membersOf}
 use Rattle.rules.specs.Progression.{Step, act, mth, prefix, totalCost}
 use Rattle.rules.specs.Operators.{Operator, joined, leaves, emitted, operatorsOf}
-use Rattle.rules.specs.Texts.{bytes, digits, line}
+use Rattle.basics.specs.Texts.{bytes, digits, line}
 use Rattle.rules.specs.Sections.{variableCount, preamble, variable, factNames, heightNames, taskNames, variableText, startValue, valueLine, goalLines, middle, effectLine, topNext, bottomNext, kept, altered, factLine, prevails, effects, counted, operatorLines, operatorText, sectionsOf}
 use Rattle.laws.specs.Valid.{Valid}
 use Rattle.laws.proofs.ListLaws.{rows-length}
@@ -183,10 +183,10 @@ module _ (t : Table) (valid : Valid t) (b : ℕ) (low : b ≤ 64) where
       (fits-members (λ k. valueLine k 0) (factCount t) (goalFacts t) 8 (λ k l. value-line k 0 (omega (arith, few-facts)) (omega arith)))
       (fits-one (value-line (factCount t) 0 (omega (arith, few-facts)) (omega arith))))
 
-  pub middle-short : (f : ℕ) → length (middle f t b) ≤ 2048
+  pub middle-short : (f : ℕ) → length (middle b f t) ≤ 2048
   unfolding middle
   middle-short f =
-      let n : ℕ = length (operatorsOf f t b) in
+      let n : ℕ = length (operatorsOf b f t) in
       rw (parts-8 (bytes "0\nbegin_state\n") (concat (rows (λ v. line (digits (startValue t v) ∷ [])) (variableCount t b))) (bytes "end_state\n") (bytes "begin_goal\n") (line (digits (length (goalLines t)) ∷ [])) (concat (goalLines t)) (bytes "end_goal\n") (line (digits n ∷ [])))
       (omega (
         arith,
@@ -195,7 +195,7 @@ module _ (t : Table) (valid : Valid t) (b : ℕ) (low : b ≤ 64) where
         three (length (goalLines t)) (omega (arith, goal-lines .count)),
         goal-lines .size,
         one-word (digits n),
-        digits-le 4 n (omega (arith, operators-few f t b valid low)),
+        digits-le 4 n (omega (arith, operators-few b f t valid low)),
       ))
 
 -- ---- operators
@@ -260,18 +260,18 @@ module _ (f : ℕ) (t : Table) (valid : Valid t) (b : ℕ) (low : b ≤ 64) wher
       subst (λ (x : ℕ). x < 1000) (sym (getD-drop n (method t k .subs) j d))
       (low-at (method t k .subs) (λ i q. omega (arith, valid .method k l .subs i q, few-tasks t valid b low)) d h (n + j))
 
-  pub operator-short : (o : Operator) → T (emitted f t b o) → length (operatorText f t o) ≤ 2048
+  pub operator-short : (o : Operator) → T (emitted b f t o) → length (operatorText f t o) ≤ 2048
   unfolding operatorText
   operator-short o e = go (o .what) (o .at) e
     where
-      go : (x : Step) (i : ℕ) → T (emitted f t b (record { what = x; at = i })) → length (operatorText f t (record { what = x; at = i })) ≤ 2048
+      go : (x : Step) (i : ℕ) → T (emitted b f t (record { what = x; at = i })) → length (operatorText f t (record { what = x; at = i })) ≤ 2048
       go (act k) i e =
-          let g = action-emitted f t b k i .0 e in
+          let g = action-emitted b f t k i .0 e in
           lines-short (factCount t) (taskCount t) (bytes "a" ++ digits k) (joined f t (act k)) k i [] (totalCost t (act k ∷ []))
           (valid .head .facts) (omega (arith, few-tasks t valid b low)) (omega (arith, three k (omega (arith, g .0, valid .head .actions))))
           (omega (arith, g .0, valid .head .actions)) (omega (arith, g .2)) (omega arith) (λ d h k. h) (omega (arith, valid .action k (g .0) .cost))
       go (mth k) i e =
-          let g = method-emitted f t b k i .0 e in
+          let g = method-emitted b f t k i .0 e in
           lines-short (factCount t) (taskCount t) (bytes "m" ++ digits k) (joined f t (mth k)) (method t k .head) i (leaves f t (mth k))
           (totalCost t (mth k ∷ map act (prefix f t k)))
           (valid .head .facts) (omega (arith, few-tasks t valid b low)) (omega (arith, three k (omega (arith, g .0, valid .head .methods))))
@@ -286,39 +286,39 @@ at-member (x ∷ xs) zero d l = List·Memᴰ·head refl
 at-member (x ∷ xs) (suc k) d l = List·Memᴰ·tail (at-member xs k d (omega arith))
 
 -- What holds of each kind of section, and of no text, holds at every number.
-module _ (f : ℕ) (t : Table) (b : ℕ) (P : List ℕ → Type 0) where
-  by-section : P (preamble t b) → ((v : ℕ) → v < variableCount t b → P (variableText t b v)) → P (middle f t b)
-      → ((o : Operator) → List·Memᴰ o (operatorsOf f t b) → P (operatorText f t o)) → P (bytes "0\n") → P []
-      → (k : ℕ) → P (getD (sectionsOf f t b) k [])
-  by-section first variables mid operators last none zero = subst P (sym (section-first f t b)) first
+module _ (b f : ℕ) (t : Table) (P : List ℕ → Type 0) where
+  by-section : P (preamble t b) → ((v : ℕ) → v < variableCount t b → P (variableText t b v)) → P (middle b f t)
+      → ((o : Operator) → List·Memᴰ o (operatorsOf b f t) → P (operatorText f t o)) → P (bytes "0\n") → P []
+      → (k : ℕ) → P (getD (sectionsOf b f t) k [])
+  by-section first variables mid operators last none zero = subst P (sym (section-first b f t)) first
   by-section first variables mid operators last none (suc k) = go (decLt k (variableCount t b)) (decLt k (suc (variableCount t b)))
     where
-      past : (i : ℕ) → Dec (i < length (operatorsOf f t b)) → Dec (i < suc (length (operatorsOf f t b))) → P (getD (sectionsOf f t b) (suc (suc (variableCount t b)) + i) [])
+      past : (i : ℕ) → Dec (i < length (operatorsOf b f t)) → Dec (i < suc (length (operatorsOf b f t))) → P (getD (sectionsOf b f t) (suc (suc (variableCount t b)) + i) [])
       past i (yes l) q =
           let d : Operator = record { what = act 0; at = 0 } in
-          subst P (sym (section-operator f t b d i l)) (operators (getD (operatorsOf f t b) i d) (at-member (operatorsOf f t b) i d l))
+          subst P (sym (section-operator b f t d i l)) (operators (getD (operatorsOf b f t) i d) (at-member (operatorsOf b f t) i d l))
       past i (no l) (yes q) =
-          let e : length (operatorsOf f t b) ≡ i = omega arith in
-          subst (λ (j : ℕ). P (getD (sectionsOf f t b) (suc (suc (variableCount t b)) + j) [])) e (subst P (sym (section-last f t b)) last)
+          let e : length (operatorsOf b f t) ≡ i = omega arith in
+          subst (λ (j : ℕ). P (getD (sectionsOf b f t) (suc (suc (variableCount t b)) + j) [])) e (subst P (sym (section-last b f t)) last)
       past i (no l) (no q) =
-          subst P (sym (List·getD-eq-default (sectionsOf f t b) [] (omega (arith, sections-length f t b)))) none
+          subst P (sym (List·getD-eq-default (sectionsOf b f t) [] (omega (arith, sections-length b f t)))) none
 
-      go : Dec (k < variableCount t b) → Dec (k < suc (variableCount t b)) → P (getD (sectionsOf f t b) (suc k) [])
-      go (yes l) q = subst P (sym (section-variable f t b k l)) (variables k l)
+      go : Dec (k < variableCount t b) → Dec (k < suc (variableCount t b)) → P (getD (sectionsOf b f t) (suc k) [])
+      go (yes l) q = subst P (sym (section-variable b f t k l)) (variables k l)
       go (no l) (yes q) =
           let e : variableCount t b ≡ k = omega arith in
-          subst (λ (j : ℕ). P (getD (sectionsOf f t b) (suc j) [])) e (subst P (sym (section-middle f t b)) mid)
+          subst (λ (j : ℕ). P (getD (sectionsOf b f t) (suc j) [])) e (subst P (sym (section-middle b f t)) mid)
       go (no l) (no q) =
           let i : ℕ = k - suc (variableCount t b) in
           let e : suc (suc (variableCount t b)) + i ≡ suc k = omega arith in
-          subst (λ (j : ℕ). P (getD (sectionsOf f t b) j [])) e
-          (past i (decLt i (length (operatorsOf f t b))) (decLt i (suc (length (operatorsOf f t b)))))
+          subst (λ (j : ℕ). P (getD (sectionsOf b f t) j [])) e
+          (past i (decLt i (length (operatorsOf b f t))) (decLt i (suc (length (operatorsOf b f t)))))
 
-pub section-short : {t : Table} {b : ℕ} → Valid t → b ≤ 64 → (f k : ℕ) → length (getD (sectionsOf f t b) k []) ≤ 2048
+pub section-short : {t : Table} {b : ℕ} → Valid t → b ≤ 64 → (f k : ℕ) → length (getD (sectionsOf b f t) k []) ≤ 2048
 section-short {t} {b} valid low f k =
-    by-section f t b (λ s. length s ≤ 2048)
+    by-section b f t (λ s. length s ≤ 2048)
     (preamble-short t valid b low)
     (variable-short t valid b low)
     (middle-short t valid b low f)
-    (λ o m. operator-short f t valid b low o (listed f t b o .0 m))
+    (λ o m. operator-short f t valid b low o (listed b f t o .0 m))
     (omega arith) (omega arith) k

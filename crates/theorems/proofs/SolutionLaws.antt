@@ -12,8 +12,8 @@ use Rattle.theorems.specs.Runs.{Run}
 use Rattle.theorems.specs.Solutions.{Refines, same, split, Executable, result, summed, Solution, actionsOf}
 use Rattle.laws.proofs.TestLaws.{and-l, and-r}
 
-module _ (f : ℕ) (t : Table) (b : ℕ) where
-  refined : (xs : List Step) (o fa : ℕ) (st done : List ℕ) → Run t f b o (record { facts = fa; stack = st }) xs
+module _ (b f : ℕ) (t : Table) where
+  refined : (xs : List Step) (o fa : ℕ) (st done : List ℕ) → Run b f t o (record { facts = fa; stack = st }) xs
       → Refines t (done ++ st) (done ++ actionsOf xs)
   refined [] o fa [] done r = same
   refined [] o fa (y ∷ st) done r = absurd (r .0)
@@ -28,7 +28,7 @@ module _ (f : ℕ) (t : Table) (b : ℕ) where
       let m : T (ltb k (methodCount t)) = search (and-l, and-r, r .0) in
       rw (eqb→eq y _ a) (split done k st (ltb→lt _ _ m) (refined xs _ _ _ done (r .2)))
 
-  executed : (xs : List Step) (o : ℕ) (s : State) → Run t f b o s xs → Executable t (s .facts) (actionsOf xs)
+  executed : (xs : List Step) (o : ℕ) (s : State) → Run b f t o s xs → Executable t (s .facts) (actionsOf xs)
   executed [] o s r = tt
   executed (act k ∷ xs) o s r =
       let a : T (ltb k (actionCount t)) = search (and-l, and-r, r .0) in
@@ -36,12 +36,12 @@ module _ (f : ℕ) (t : Table) (b : ℕ) where
       (ltb→lt _ _ a, e, executed xs _ _ (r .2))
   executed (mth k ∷ xs) o s r = executed xs _ _ (r .2)
 
-  reached : (xs : List Step) (o : ℕ) (s : State) → Run t f b o s xs → T (holds (goalFacts t) (result t (s .facts) (actionsOf xs)))
+  reached : (xs : List Step) (o : ℕ) (s : State) → Run b f t o s xs → T (holds (goalFacts t) (result t (s .facts) (actionsOf xs)))
   reached [] o s r = r .1
   reached (act k ∷ xs) o s r = reached xs _ _ (r .2)
   reached (mth k ∷ xs) o s r = reached xs _ _ (r .2)
 
-  pub solution : (xs : List Step) → Run t f b 0 (begin t) xs → Solution t (actionsOf xs)
+  pub solution : (xs : List Step) → Run b f t 0 (begin t) xs → Solution t (actionsOf xs)
   solution xs r =
       record {
         refines = refined xs 0 (startFacts t) (startTask t ∷ []) [] r;

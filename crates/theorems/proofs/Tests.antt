@@ -4,7 +4,7 @@ use mathlib.Core.Path.{_≡_}
 use mathlib.Core.Bool.{Bool, true, false}
 use native.Mathlib.Omega.{arith}
 use lib.Dec.{T}
-use Rattle.rules.specs.Answers.{Answer, answer, refusal, check}
+use Rattle.basics.specs.Answers.{Answer, answer, refusal, check}
 
 pub refused : {A P : Type 0} {r : A} (n l : ℕ) → refusal n l ≡ answer r → P
 refused n l e = let z : _≡_ {A = ℕ} 0 1 = cc in absurd (omega arith)

@@ -4,7 +4,7 @@ use mathlib.Core.Path.{_≡_}
 use mathlib.Core.List.{List}
 use lib.ListN.{length}
 use lib.Dec.{T}
-use Rattle.rules.specs.Readings.{got}
+use Rattle.basics.specs.Readings.{got}
 use Rattle.rules.specs.Tables.{Table, decode}
 use Rattle.rules.specs.Progression.{Step, begin, totalCost}
 use Rattle.rules.specs.Operators.{Operator, expandAll}
@@ -20,10 +20,10 @@ pub record Given (b f : ℕ) (s : List ℕ) (t : Table) (n : ℕ) : Type 0 where
   pub reads : decode s ≡ got t n
 
 -- All lines are in shape, their operators, each at its true height, expand to a complete run, and the numbers are those of its steps.
-pub record Accepted (f : ℕ) (t : Table) (b : ℕ) (ls : List Line) (c o k : ℕ) : Type 0 where
+pub record Accepted (b f : ℕ) (t : Table) (ls : List Line) (c o k : ℕ) : Type 0 where
   pub shape : T (shaped ls)
   pub heights : TrueHeights f t (begin t) (opersOf ls)
-  pub run : CompleteRun t f b (expandAll f t (opersOf ls))
+  pub run : CompleteRun b f t (expandAll f t (opersOf ls))
   pub cost : c ≡ totalCost t (expandAll f t (opersOf ls))
   pub operators : o ≡ length (opersOf ls)
   pub steps : k ≡ length (expandAll f t (opersOf ls))

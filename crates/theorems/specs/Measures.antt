@@ -1,7 +1,7 @@
 -- What the calls for number, place and length of an expansion say, from the answer of the check alone.
 use Prim.Native.Nat.{ℕ, _*_}
 use lib.Dec.{leb}
-use Rattle.rules.specs.Answers.{Answer, answer, refusal, check}
+use Rattle.basics.specs.Answers.{Answer, answer, refusal, check}
 use Rattle.rules.specs.Checks.{Tally}
 
 -- Two bytes a step, where there is room for them.

@@ -16,13 +16,13 @@ resting b (suc o) s = true
 
 -- A run from a state at which o prefix actions are due, to its end: each step is allowed by stack and facts, the height is within
 -- the bound at every resting point, and at the end the stack is empty and the goal facts hold.
-abbrev pub Run : Table → ℕ → ℕ → ℕ → State → List Step → Type 0
-Run t f b o s [] = T (isEmpty (s .stack)) × T (holds (goalFacts t) (s .facts))
-Run t f b o s (x ∷ xs) = T (allowed t s x) × T (resting b (due f t o x) (next t s x)) × Run t f b (due f t o x) (next t s x) xs
+abbrev pub Run : ℕ → ℕ → Table → ℕ → State → List Step → Type 0
+Run b f t o s [] = T (isEmpty (s .stack)) × T (holds (goalFacts t) (s .facts))
+Run b f t o s (x ∷ xs) = T (allowed t s x) × T (resting b (due f t o x) (next t s x)) × Run b f t (due f t o x) (next t s x) xs
 
 -- It begins with the start facts and the starting task alone on the stack.
-abbrev pub CompleteRun : Table → ℕ → ℕ → List Step → Type 0
-CompleteRun t f b xs = T (resting b 0 (begin t)) × Run t f b 0 (begin t) xs
+abbrev pub CompleteRun : ℕ → ℕ → Table → List Step → Type 0
+CompleteRun b f t xs = T (resting b 0 (begin t)) × Run b f t 0 (begin t) xs
 
 -- Each operator stands at the true height of the state that it is applied in.
 abbrev pub TrueHeights : ℕ → Table → State → List Operator → Type 0

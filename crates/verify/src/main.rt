@@ -5,5 +5,5 @@ use libc::STDIN_FILENO;
 fn main() {
     let mut input = [0u8; 131076];
     let n = io::read_full(STDIN_FILENO, &mut input);
-    checking::judge(&input[..n]);
+    verifying::judge(&input[..n]);
 }

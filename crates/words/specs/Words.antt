@@ -2,7 +2,7 @@
 use Prim.Native.Nat.{ℕ, _+_, _*_, _≤_}
 use mathlib.Core.List.{List}
 use lib.ListN.{length, getD}
-use Rattle.rules.specs.Lists.{rows}
+use Rattle.basics.specs.Lists.{rows}
 use Rattle.rules.specs.Tables.{Header, Action, Method, Table}
 use Rattle.laws.specs.Valid.{Valid}
 use Rattle.words.specs.declared.Action.{Action as ActionInCode}

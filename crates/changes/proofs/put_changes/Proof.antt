@@ -2,7 +2,7 @@ use borrow.Author.Needs.{needs}
 use Prim.Native.Nat.{_+_, _*_, _-_, _≤_}
 use mathlib.Core.Path.{_≡_, ap, _∙_}
 use native.Mathlib.Omega.{arith}
-use Rattle.rules.specs.Lists.{upto}
+use Rattle.basics.specs.Lists.{upto}
 use Rattle.laws.proofs.TextLaws.{upto-more, concat-members}
 use Rattle.text.specs.Appends.{Appends}
 use Rattle.text.proofs.AppendLaws.{_▸_, appends-is, appends-none}

@@ -1,6 +1,6 @@
 use mathlib.Core.List.{[], _∷_}
 use native.Mathlib.Omega.{arith}
-use Rattle.rules.specs.Texts.{digits}
+use Rattle.basics.specs.Texts.{digits}
 use Rattle.template.proofs.TemplateLaws.{drawn-none, drawn-is}
 use Rattle.rows.specs.Rows.{rowAt}
 use Rattle.compose.specs.RowTexts.{setsOf}

@@ -3,7 +3,7 @@ use Prim.Native.Nat.{_*_, _-_, _≤_}
 use native.Mathlib.Omega.{arith}
 use Rattle.compose.specs.Draws.{Draws}
 use mathlib.Core.Path.{_≡_, refl, ap}
-use Rattle.rules.specs.Lists.{upto}
+use Rattle.basics.specs.Lists.{upto}
 use Rattle.compose.specs.Pieces.{pushed, pushes}
 use Rattle.compose.proofs.DrawLaws.{_▹_, draws-none, draws-is, room-after}
 use Rattle.compose.proofs.PieceLaws.{pushes-more}

@@ -37,7 +37,7 @@ show-requires : tie.Need-show-requires
 show-requires c κs =
     let told = c .before .before .before in
     let opened = rw (told .enum-told .given .1) at (told .before .before .before .open-input .ensures) in
-    (opened .0, omega (arith, opened .2, c .byte2 .ensures))
+    (opened .0, omega (arith, opened .2, c .before .byte .ensures))
 
 returns : tie.Need-returns
 returns c = search needs

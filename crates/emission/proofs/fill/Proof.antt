@@ -3,7 +3,7 @@ use mathlib.Core.Path.{_≡_, sym, _∙_}
 use mathlib.Core.List.{_++_, append-nil}
 use native.Mathlib.Omega.{arith}
 use lib.ListN.{length, take}
-use Rattle.rules.specs.Lists.{upto}
+use Rattle.basics.specs.Lists.{upto}
 use Rattle.laws.specs.Steps.{stepText}
 use Rattle.words.specs.Words.{tableOf}
 use Rattle.emission.proofs.PartLaws.{part-more}
@@ -12,12 +12,12 @@ use Rattle.emission.proofs.fill.Statement.{statement}
 use Rattle.emission.proofs.fill.Tie as tie
 
 abbrev Inv-loop : tie.InvT-loop
-Inv-loop words form bound figures from out₀ steps room next₀ size₀ out next size =
+Inv-loop words bound form figures from out₀ steps room next₀ size₀ out next size =
     (from ≤ next) × (next ≤ steps) × (size ≤ 90112 * (next - from)) × (size ≤ length out) × (length out ≡ length out₀)
-    × (upto (stepText form (tableOf words) bound) next ≡ upto (stepText form (tableOf words) bound) from ++ take size out)
+    × (upto (stepText bound form (tableOf words)) next ≡ upto (stepText bound form (tableOf words)) from ++ take size out)
 
 abbrev μ-loop : tie.MeasureT-loop
-μ-loop words form bound figures from out₀ steps room next₀ size₀ out next size = steps - next
+μ-loop words bound form figures from out₀ steps room next₀ size₀ out next size = steps - next
 
 step-count-requires : tie.Need-step-count-requires Inv-loop μ-loop
 step-count-requires c κs = search needs

@@ -1,12 +1,12 @@
 use mathlib.Core.Path.{sym, ap, _∙_}
 use Prim.Native.Nat.{ℕ}
 use native.Mathlib.Omega.{arith}
-use Rattle.rules.specs.Answers.{refusal}
+use Rattle.basics.specs.Answers.{refusal}
 use Rattle.rules.specs.Refusals.{wholeProblem}
 use Rattle.words.specs.Words.{tableOf}
 use Rattle.numbers.proofs.AnswerLaws.{via}
-use Rattle.table.specs.Answers.{stepOf}
-use Rattle.table.specs.declared.Step.{Step}
+use Rattle.table.specs.Answers.{onwardOf}
+use Rattle.table.specs.declared.Onward.{Onward}
 use Rattle.table.proofs.AnswerLaws.{read-held}
 use Rattle.laws.proofs.RefusalLaws.{table-bad, table-got}
 use Rattle.console.proofs.OrderLaws.{early-refuses, early-passes, early-bound}
@@ -44,7 +44,7 @@ returns-2 c =
     let a = test .before .before .before .before .args in
     let w = read .last .1 .0 in
     early-passes (a .bound) (a .form) (a .table .now) _ (sym (test .before .early .ensures) ∙ test .if1 .left)
-    ∙ table-bad (a .table .now) _ (via (λ (r : Step). stepOf r (tableOf w)) (read .ensures) (c .before .why .given .1))
+    ∙ table-bad (a .table .now) _ (via (λ (r : Onward). onwardOf r (tableOf w)) (read .ensures) (c .before .why .given .1))
 
 same-length-2 : tie.Need-same-length-2
 same-length-2 c = search needs
@@ -63,7 +63,7 @@ returns-3 c =
       bound .0,
       bound .1,
       early-passes (a .bound) (a .form) (a .table .now) _ early
-          ∙ table-got (a .table .now) _ (via (λ (r : Step). stepOf r (tableOf w)) (read .ensures) (c .enum-told .given .1)),
+          ∙ table-got (a .table .now) _ (via (λ (r : Onward). onwardOf r (tableOf w)) (read .ensures) (c .enum-told .given .1)),
     )
 
 pub open-spec : {M : Type 1} → statement M

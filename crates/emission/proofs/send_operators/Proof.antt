@@ -9,11 +9,11 @@ use Rattle.emission.proofs.send_operators.Statement.{statement}
 use Rattle.emission.proofs.send_operators.Tie as tie
 
 abbrev Inv-loop : tie.InvT-loop
-Inv-loop words form bound figures out₀ steps next₀ out next =
+Inv-loop words bound form figures out₀ steps next₀ out next =
     (next ≤ steps) × (length out ≡ length out₀) × (steps ≡ actionCount (tableOf words) + methodCount (tableOf words))
 
 abbrev μ-loop : tie.MeasureT-loop
-μ-loop words form bound figures out₀ steps next₀ out next = steps - next
+μ-loop words bound form figures out₀ steps next₀ out next = steps - next
 
 step-count-requires : tie.Need-step-count-requires Inv-loop μ-loop
 step-count-requires c κs = search needs

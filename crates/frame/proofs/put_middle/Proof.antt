@@ -35,7 +35,7 @@ returns c =
     let p1 = p2 .before .before .before .before in
     let n = p1 .before .before in
     let a = n .before .before .before .args in (
-      appends-is (middle-lines (a .form) (tableOf (a .words .now)) (a .bound))
+      appends-is (middle-lines (a .bound) (a .form) (tableOf (a .words .now)))
           (rw (← n .operator-count .ensures) (p1 .put-state .ensures .0 ▸ p2 .put-goal .ensures .0 ▸ p3 .put-number .ensures .0 ▸ p4 .put .ensures)),
       omega (arith, p1 .put-state .ensures .1, p2 .put-goal .ensures .1, p3 .put-number .ensures .1, p4 .put .ensures .next),
     )

@@ -2,7 +2,7 @@ use Prim.Native.Nat.{ℕ}
 use mathlib.Core.Path.{sym, ap}
 use mathlib.Core.List.{[], _∷_}
 use native.Mathlib.Omega.{arith}
-use Rattle.rules.specs.Texts.{digits, line}
+use Rattle.basics.specs.Texts.{digits, line}
 use Rattle.words.specs.Words.{tableOf}
 use Rattle.text.proofs.AppendLaws.{appends-is}
 use Rattle.frame.proofs.FrameLaws.{start-low}

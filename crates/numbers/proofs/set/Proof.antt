@@ -3,7 +3,7 @@ use Prim.Native.Nat.{ℕ, _+_, _≤_, _<_, zero-le}
 use native.Mathlib.Omega.{arith}
 use lib.ListN.{getD}
 use borrow.Author.Tests.{le-leb, lt-leb}
-use Rattle.rules.specs.Readings.{got}
+use Rattle.basics.specs.Readings.{got}
 use Rattle.rules.specs.Numbers.{ranged, inRange}
 use Rattle.numbers.specs.Answers.{numOf}
 use Rattle.numbers.proofs.GroupLaws.{one-group}

@@ -27,7 +27,7 @@ returns c =
     let p = c .before .before .before .before .prefix-of .ensures in
     c .highest-position .ensures
     ∙ rw (c .before .before .width-of .ensures, p .count, ap (λ (j : Join). j .dead) (p .sets))
-    (sym (method-positions (a .form) (tableOf (a .words .now)) (a .bound) (a .k) (c .before .before .before .before .before .before .pre .2)))
+    (sym (method-positions (a .bound) (a .form) (tableOf (a .words .now)) (a .k) (c .before .before .before .before .before .before .pre .2)))
 
 pub method-positions-spec : {M : Type 1} → statement M
 method-positions-spec =

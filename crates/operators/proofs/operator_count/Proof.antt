@@ -3,7 +3,7 @@ use Prim.Native.Nat.{ℕ, _+_, _-_, _*_, _≤_}
 use native.Mathlib.Omega.{arith}
 use native.Mathlib.Nat.{add-zero, mul-le-mul-right}
 use borrow.Author.Needs.{needs}
-use Rattle.rules.specs.Lists.{sumTo}
+use Rattle.basics.specs.Lists.{sumTo}
 use Rattle.rules.specs.Tables.{actionCount, methodCount}
 use Rattle.rules.specs.Progression.{mth}
 use Rattle.rules.specs.Operators.{positions}
@@ -14,13 +14,13 @@ use Rattle.operators.proofs.operator_count.Statement.{statement}
 use Rattle.operators.proofs.operator_count.Tie as tie
 
 abbrev Inv-loop : tie.InvT-loop
-Inv-loop words form bound methods count₀ k₀ count k =
+Inv-loop words bound form methods count₀ k₀ count k =
     (methods ≡ methodCount (tableOf words))
     × (k ≤ methods)
-    × (count ≡ actionCount (tableOf words) * bound + sumTo (λ i. positions form (tableOf words) bound (mth i)) k)
+    × (count ≡ actionCount (tableOf words) * bound + sumTo (λ i. positions bound form (tableOf words) (mth i)) k)
 
 abbrev μ-loop : tie.MeasureT-loop
-μ-loop words form bound methods count₀ k₀ count k = methods - k
+μ-loop words bound form methods count₀ k₀ count k = methods - k
 
 method-count-requires : tie.Need-method-count-requires Inv-loop μ-loop
 method-count-requires c κs = search needs
@@ -53,8 +53,8 @@ add-count c =
     omega (
       arith,
       c .method-positions .ensures,
-      sum-more (λ i. positions (a .args .form) t (a .args .bound) (mth i)) (l .k),
-      few-operators (a .args .form) t (a .args .bound) (l .k + 1) (a .pre .0 .valid) (a .pre .1) (omega arith),
+      sum-more (λ i. positions (a .args .bound) (a .args .form) t (mth i)) (l .k),
+      few-operators (a .args .bound) (a .args .form) t (l .k + 1) (a .pre .0 .valid) (a .pre .1) (omega arith),
     )
 
 add-k : tie.Need-add-k Inv-loop μ-loop
@@ -69,7 +69,7 @@ loop-again c =
     let l = c .before .before .loop in (
       l .inv .0,
       omega arith,
-      omega (arith, c .method-positions .ensures, sum-more (λ i. positions (a .form) (tableOf (a .words .now)) (a .bound) (mth i)) (l .k)),
+      omega (arith, c .method-positions .ensures, sum-more (λ i. positions (a .bound) (a .form) (tableOf (a .words .now)) (mth i)) (l .k)),
     )
 
 returns : tie.Need-returns Inv-loop μ-loop
@@ -79,8 +79,8 @@ returns c =
     let t = tableOf (a .words .now) in
     let e : l .k ≡ methodCount t = omega arith in
     l .inv .2
-    ∙ ap (λ (n : ℕ). actionCount t * a .bound + sumTo (λ i. positions (a .form) t (a .bound) (mth i)) n) e
-    ∙ sym (operators-length (a .form) t (a .bound))
+    ∙ ap (λ (n : ℕ). actionCount t * a .bound + sumTo (λ i. positions (a .bound) (a .form) t (mth i)) n) e
+    ∙ sym (operators-length (a .bound) (a .form) t)
 
 pub operator-count-spec : {M : Type 1} → statement M
 operator-count-spec =

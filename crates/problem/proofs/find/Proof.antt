@@ -27,7 +27,7 @@ rem-position c = search needs
 returns : tie.Need-returns
 returns c =
     let a = c .before .before .before .args in
-    action-place (a .form) (tableOf (a .words .now)) (a .bound) (a .n) (c .before .before .before .pre .2)
+    action-place (a .bound) (a .form) (tableOf (a .words .now)) (a .n) (c .before .before .before .pre .2)
     (omega (arith, ap (λ (m : ℕ). m * a .bound) (c .before .action-count .ensures), c .if1 .taken))
 
 method-at-requires : tie.Need-method-at-requires
@@ -40,7 +40,7 @@ returns-2 c =
     let m = c .before .before .action-count in
     let e : actionCount t * a .bound + (a .n - m .result * a .bound) ≡ a .n =
     omega (arith, ap (λ (i : ℕ). i * a .bound) (m .ensures), c .before .if1 .left) in
-    subst (λ (i : ℕ). IsFound (a .form) t (a .bound) i (c .method-at .result)) e (c .method-at .ensures)
+    subst (λ (i : ℕ). IsFound (a .bound) (a .form) t i (c .method-at .result)) e (c .method-at .ensures)
 
 pub find-spec : {M : Type 1} → statement M
 find-spec =

@@ -2,7 +2,7 @@ use mathlib.Core.Path.{_≡_, sym, subst}
 use Prim.Native.Nat.{ℕ, _+_, _-_, _*_, _≤_}
 use native.Mathlib.Omega.{arith}
 use borrow.Author.Needs.{needs}
-use Rattle.rules.specs.Lists.{sumTo}
+use Rattle.basics.specs.Lists.{sumTo}
 use Rattle.rules.specs.Tables.{actionCount, methodCount}
 use Rattle.rules.specs.Progression.{mth}
 use Rattle.rules.specs.Operators.{positions}
@@ -14,14 +14,14 @@ use Rattle.problem.proofs.method_at.Statement.{statement}
 use Rattle.problem.proofs.method_at.Tie as tie
 
 abbrev Inv-loop : tie.InvT-loop
-Inv-loop words form bound n first methods left₀ k₀ left k =
+Inv-loop words bound form n first methods left₀ k₀ left k =
     (first ≡ actionCount (tableOf words))
     × (methods ≡ methodCount (tableOf words))
     × (k ≤ methods)
-    × (n ≡ sumTo (λ j. positions form (tableOf words) bound (mth j)) k + left)
+    × (n ≡ sumTo (λ j. positions bound form (tableOf words) (mth j)) k + left)
 
 abbrev μ-loop : tie.MeasureT-loop
-μ-loop words form bound n first methods left₀ k₀ left k = methods - k
+μ-loop words bound form n first methods left₀ k₀ left k = methods - k
 
 action-count-requires : tie.Need-action-count-requires Inv-loop μ-loop
 action-count-requires c κs = search needs
@@ -44,8 +44,8 @@ returns c =
     let a = c .before .before .before .before .before .before .before .args in
     let l = c .before .before .before .loop in
     let t = tableOf (a .words .now) in
-    subst (λ (m : ℕ). IsPlace (a .form) t (a .bound) (actionCount t * a .bound + a .n) (m + l .k) (l .left)) (sym (l .inv .0))
-    (method-place (a .form) t (a .bound) (a .n) (l .k) (l .left) (omega (arith, l .inv .1)) (omega (arith, c .before .method-positions .ensures)) (l .inv .3))
+    subst (λ (m : ℕ). IsPlace (a .bound) (a .form) t (actionCount t * a .bound + a .n) (m + l .k) (l .left)) (sym (l .inv .0))
+    (method-place (a .bound) (a .form) t (a .n) (l .k) (l .left) (omega (arith, l .inv .1)) (omega (arith, c .before .method-positions .ensures)) (l .inv .3))
 
 add-k : tie.Need-add-k Inv-loop μ-loop
 add-k c = search needs
@@ -60,14 +60,14 @@ loop-again c =
       l .inv .0,
       l .inv .1,
       omega arith,
-      omega (arith, c .before .method-positions .ensures, sum-more (λ j. positions (a .form) (tableOf (a .words .now)) (a .bound) (mth j)) (l .k)),
+      omega (arith, c .before .method-positions .ensures, sum-more (λ j. positions (a .bound) (a .form) (tableOf (a .words .now)) (mth j)) (l .k)),
     )
 
 returns-2 : tie.Need-returns-2 Inv-loop μ-loop
 returns-2 c =
     let a = c .before .before .before .before .before .args in
     let l = c .before .loop in
-    past-all (a .form) (tableOf (a .words .now)) (a .bound) (a .n) (l .k) (l .left) (omega (arith, l .inv .1)) (l .inv .3)
+    past-all (a .bound) (a .form) (tableOf (a .words .now)) (a .n) (l .k) (l .left) (omega (arith, l .inv .1)) (l .inv .3)
 
 pub method-at-spec : {M : Type 1} → statement M
 method-at-spec =

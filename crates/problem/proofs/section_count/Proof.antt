@@ -21,17 +21,17 @@ operator-count-requires c κs = search needs
 add-result : tie.Need-add-result
 add-result c =
     let a = c .before .before .before in
-    omega (arith, operators-few (a .args .form) (tableOf (a .args .words .now)) (a .args .bound) (a .pre .0 .valid) (a .pre .1))
+    omega (arith, operators-few (a .args .bound) (a .args .form) (tableOf (a .args .words .now)) (a .pre .0 .valid) (a .pre .1))
 
 add-result-2 : tie.Need-add-result-2
 add-result-2 c =
     let a = c .before .before .before in
-    omega (arith, operators-few (a .args .form) (tableOf (a .args .words .now)) (a .args .bound) (a .pre .0 .valid) (a .pre .1))
+    omega (arith, operators-few (a .args .bound) (a .args .form) (tableOf (a .args .words .now)) (a .pre .0 .valid) (a .pre .1))
 
 returns : tie.Need-returns
 returns c =
     let a = c .before .before .before .args in
-    omega (arith, sections-length (a .form) (tableOf (a .words .now)) (a .bound))
+    omega (arith, sections-length (a .bound) (a .form) (tableOf (a .words .now)))
 
 pub section-count-spec : {M : Type 1} → statement M
 section-count-spec =

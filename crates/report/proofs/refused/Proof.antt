@@ -1,5 +1,5 @@
 use native.Mathlib.Omega.{arith}
-use Rattle.rules.specs.Texts.{bytes, digits}
+use Rattle.basics.specs.Texts.{bytes, digits}
 use Rattle.text.proofs.AppendLaws.{_▸_, appends-is}
 use Rattle.report.specs.Reports.{lineOf}
 use Rattle.report.proofs.ReportLaws.{three-words}

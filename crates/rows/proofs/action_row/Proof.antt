@@ -47,7 +47,7 @@ returns c f =
     let act = c .before .before .before .before .before .before .before .before .before .before .action-at in
     let put = c .before .before .before .before .before .before .put-action in
     let tail = c .before .before .put-tail in
-    action-stored f (tableOf (a .words .now)) (a .bound) (a .k) (a .i) (a .ops .now) (put .last .0) (a .cells .now) (tail .last .0) (joinRead (c .before .before .before .before .before .before .before .before .join-one .result)) (act .result .cost)
+    action-stored (a .bound) f (tableOf (a .words .now)) (a .k) (a .i) (a .ops .now) (put .last .0) (a .cells .now) (tail .last .0) (joinRead (c .before .before .before .before .before .before .before .before .join-one .result)) (act .result .cost)
     (c .before .before .before .before .before .before .before .before .before .before .before .before .before .before .pre .2)
     (c .before .before .before .before .before .before .before .before .join-one .ensures ∙ (λ i. joinOne (c .before .before .before .before .before .before .before .before .before .no-join .ensures i) (act .ensures i)))
     (ap (λ (x : Action). x .cost) (act .ensures))

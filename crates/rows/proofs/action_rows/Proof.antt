@@ -19,7 +19,7 @@ Inv-loop words bound ops₀ cells₀ n k₀ ops cells k =
     × (k ≤ n)
     × (length ops ≡ length ops₀)
     × (length cells ≡ length cells₀)
-    × ((f : ℕ) → PreparedTo f (tableOf words) bound k ops cells)
+    × ((f : ℕ) → PreparedTo bound f (tableOf words) k ops cells)
 
 abbrev μ-loop : tie.MeasureT-loop
 μ-loop words bound ops₀ cells₀ n k₀ ops cells k = n - k
@@ -62,8 +62,8 @@ loop-again c =
       row .kept .1 .1 .1 .1 .0 ∙ l .inv .2,
       row .kept .1 .1 .1 .1 .1 .0 ∙ l .inv .3,
       λ f.
-          prepared-more f t (a .bound) (l .k) (l .ops) (l .cells) ops cells (c .before .before .before .before .before .before .before .before .before .before .before .before .before .pre .0 .valid) (omega arith) (l .inv .4 f)
-          (subst (λ (x : Step). Stored (l .k) (rowOf f t (a .bound) x) (l .ops) (l .cells) ops cells) (sym (step-action t (l .k) k)) (row .ensures f)),
+          prepared-more (a .bound) f t (l .k) (l .ops) (l .cells) ops cells (c .before .before .before .before .before .before .before .before .before .before .before .before .before .pre .0 .valid) (omega arith) (l .inv .4 f)
+          (subst (λ (x : Step). Stored (l .k) (rowOf (a .bound) f t x) (l .ops) (l .cells) ops cells) (sym (step-action t (l .k) k)) (row .ensures f)),
     )
 
 same-length : tie.Need-same-length Inv-loop μ-loop
@@ -78,7 +78,7 @@ returns c f =
     let l = c .before .loop in
     let t = tableOf (a .words .now) in
     let e : l .k ≡ actionCount t = omega (arith, l .inv .0) in
-    subst (λ (n : ℕ). PreparedTo f t (a .bound) n (l .ops) (l .cells)) e (l .inv .4 f)
+    subst (λ (n : ℕ). PreparedTo (a .bound) f t n (l .ops) (l .cells)) e (l .inv .4 f)
 
 pub action-rows-spec : {M : Type 1} → statement M
 action-rows-spec =

@@ -94,7 +94,7 @@ returns c =
     let put = c .before .before .before .before .before .before .before .before .before .before .before .before .before .before .before .put-action in
     let rest = c .before .before .before .before .before .before .before .before .before .before .before .put-rest in
     let tail = c .before .before .put-tail in
-    method-stored (a .form) t (a .bound) (a .k) (a .i) (a .ops .now) (put .last .0) (a .cells .now) (rest .last .1 .1 .1 .0) (tail .last .0)
+    method-stored (a .bound) (a .form) t (a .k) (a .i) (a .ops .now) (put .last .0) (a .cells .now) (rest .last .1 .1 .1 .0) (tail .last .0)
     (joinRead (prefix .result .join)) (c .before .before .before .before .before .before .before .before .before .before .before .before .before .before .before .before .before .prefix-cost .result) (prefix .result .count) (c .before .before .before .before .before .before .before .before .head-of .result) _ _ (c .before .before .before .before .highest-position .result)
     (pre .0 .valid)
     (pre .2)

@@ -15,16 +15,16 @@ use Rattle.rows.proofs.method_rows.Statement.{statement}
 use Rattle.rows.proofs.method_rows.Tie as tie
 
 abbrev Inv-loop : tie.InvT-loop
-Inv-loop words form bound ops₀ cells₀ first n k₀ ops cells k =
+Inv-loop words bound form ops₀ cells₀ first n k₀ ops cells k =
     (first ≡ actionCount (tableOf words))
     × (n ≡ methodCount (tableOf words))
     × (k ≤ n)
     × (length ops ≡ length ops₀)
     × (length cells ≡ length cells₀)
-    × PreparedTo form (tableOf words) bound (first + k) ops cells
+    × PreparedTo bound form (tableOf words) (first + k) ops cells
 
 abbrev μ-loop : tie.MeasureT-loop
-μ-loop words form bound ops₀ cells₀ first n k₀ ops cells k = n - k
+μ-loop words bound form ops₀ cells₀ first n k₀ ops cells k = n - k
 
 action-count-requires : tie.Need-action-count-requires Inv-loop μ-loop
 action-count-requires c κs = search needs
@@ -41,7 +41,7 @@ loop-holds c =
       omega arith,
       refl,
       refl,
-      subst (λ (n : ℕ). PreparedTo (a .form) (tableOf (a .words .now)) (a .bound) n (a .ops .now) (a .cells .now)) e (c .before .before .before .before .before .pre .3),
+      subst (λ (n : ℕ). PreparedTo (a .bound) (a .form) (tableOf (a .words .now)) n (a .ops .now) (a .cells .now)) e (c .before .before .before .before .before .pre .3),
     )
 
 add-method-row : tie.Need-add-method-row Inv-loop μ-loop
@@ -82,9 +82,9 @@ loop-again c =
       omega arith,
       row .kept .1 .1 .1 .1 .1 .0 ∙ l .inv .3,
       row .kept .1 .1 .1 .1 .1 .1 .0 ∙ l .inv .4,
-      subst (λ (n : ℕ). PreparedTo (a .form) t (a .bound) n ops cells) e
-          (prepared-more (a .form) t (a .bound) (first + l .k) (l .ops) (l .cells) ops cells (c .before .before .before .before .before .before .before .before .before .before .before .before .before .before .pre .0 .valid) (omega (arith, l .inv .0, l .inv .1)) (l .inv .5)
-          (subst (λ (y : Step). Stored (first + l .k) (rowOf (a .form) t (a .bound) y) (l .ops) (l .cells) ops cells) (sym x) (row .ensures))),
+      subst (λ (n : ℕ). PreparedTo (a .bound) (a .form) t n ops cells) e
+          (prepared-more (a .bound) (a .form) t (first + l .k) (l .ops) (l .cells) ops cells (c .before .before .before .before .before .before .before .before .before .before .before .before .before .before .pre .0 .valid) (omega (arith, l .inv .0, l .inv .1)) (l .inv .5)
+          (subst (λ (y : Step). Stored (first + l .k) (rowOf (a .bound) (a .form) t y) (l .ops) (l .cells) ops cells) (sym x) (row .ensures))),
     )
 
 same-length : tie.Need-same-length Inv-loop μ-loop
@@ -99,7 +99,7 @@ returns c =
     let l = c .before .loop in
     let t = tableOf (a .words .now) in
     let e : c .before .before .before .action-count .result + l .k ≡ actionCount t + methodCount t = omega (arith, l .inv .0, l .inv .1) in
-    subst (λ (n : ℕ). PreparedTo (a .form) t (a .bound) n (l .ops) (l .cells)) e (l .inv .5)
+    subst (λ (n : ℕ). PreparedTo (a .bound) (a .form) t n (l .ops) (l .cells)) e (l .inv .5)
 
 pub method-rows-spec : {M : Type 1} → statement M
 method-rows-spec =

@@ -26,7 +26,7 @@ returns c =
     let a = c .before .before .before .before .before .before .before .before .before .before .before .before .args in
     let t = tableOf (a .words .now) in
     let row = c .before .before .before .before .action-row in (
-      row .ensures (a .form) .row ∙ ap (rowOf (a .form) t (a .bound)) (sym (step-action t (a .i) (omega (arith, c .before .before .before .before .before .before .before .before .action-count .ensures)))),
+      row .ensures (a .form) .row ∙ ap (rowOf (a .bound) (a .form) t) (sym (step-action t (a .i) (omega (arith, c .before .before .before .before .before .before .before .before .action-count .ensures)))),
       (row .kept .1 .1 .1 .1 .0, row .kept .1 .1 .1 .1 .1 .0),
     )
 
@@ -46,7 +46,7 @@ returns-2 c =
     let row = c .before .before .before .before .method-row in
     let n = c .before .before .before .before .before .before .before .before .action-count .ensures in (
       row .ensures .row
-          ∙ ap (rowOf (a .form) t (a .bound))
+          ∙ ap (rowOf (a .bound) (a .form) t)
           (ap (λ (m : ℕ). mth (a .i - m)) n ∙ sym (step-past t (a .i) (omega (arith, n)))),
       (row .kept .1 .1 .1 .1 .1 .0, row .kept .1 .1 .1 .1 .1 .1 .0),
     )

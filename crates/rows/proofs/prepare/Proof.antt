@@ -30,7 +30,7 @@ returns c =
     let pre = c .before .before .before .before .before .before .before .before .before .before .before .before .before .before .before .before .before .pre in
     let acts = c .before .before .before .before .before .before .before .before .before .before .before .action-rows in
     let all = c .before .before .before .before .method-rows in
-    prepared-all (a .form) (tableOf (a .words .now)) (a .bound) (all .last .1 .1 .1 .0) (all .last .1 .1 .1 .1 .0) (pre .0 .valid)
+    prepared-all (a .bound) (a .form) (tableOf (a .words .now)) (all .last .1 .1 .1 .0) (all .last .1 .1 .1 .1 .0) (pre .0 .valid)
     (omega (arith, all .kept .1 .1 .1 .0, acts .kept .1 .1 .0, pre .2))
     (omega (arith, all .kept .1 .1 .1 .1 .0, acts .kept .1 .1 .1 .0, pre .3))
     (all .ensures)

@@ -5,8 +5,8 @@ use lib.ListN.{getD}
 use borrow.Author.Needs.{needs}
 use borrow.Author.Tests.{not-true, not-false}
 use Rattle.rows.specs.Rows.{rowAt}
-use Rattle.run.specs.declared.Tally.{Tally}
-use Rattle.run.specs.Runs.{TallyOk, turnedOf}
+use Rattle.run.specs.declared.Progress.{Progress}
+use Rattle.run.specs.Runs.{ProgressOk, turnedOf}
 use Rattle.run.proofs.RowLaws.{row-low, row-high, row-other-height, row-other-task, row-needs, row-done, refusing, landing-ok}
 use Rattle.run.proofs.turn.Statement.{statement}
 use Rattle.run.proofs.turn.Tie as tie
@@ -117,11 +117,11 @@ returns-6 c =
     let l : 1 ≤ a .pos = c .before .before .before .before .before .before .before .before .before .before .before .if1 .left in
     let g : a .pos ≤ getD (a .cells .now) (12 * a .index + 11) 0 = c .before .before .before .before .before .before .before .before .before .before .if2 .left in
     let q : a .pos ≡ a .t .height = c .before .before .before .before .before .before .before .before .before .if3 .left in (
-      ap (λ (y : Tally). turnedOf (record { number = 0; tally = y }) (c .before .put-row .last .0)) (c .landed .ensures)
+      ap (λ (y : Progress). turnedOf (record { number = 0; progress = y }) (c .before .put-row .last .0)) (c .landed .ensures)
           ∙ row-done (rowAt (a .ops .now) (a .cells .now) (a .index)) (a .pos) (a .t) (a .stack .now) l g q (c .before .before .before .before .before .before .if4 .left) (sym (c .before .before .before .before .all-hold .ensures) ∙ not-false _ (c .before .before .before .if5 .left)) _ (put .stack stay (row .rest)),
       (
         put .kept ∙ pre .0 .0,
-        subst TallyOk (sym (c .landed .ensures)) (landing-ok (a .t) (a .t .height - 1) stay (rowAt (a .ops .now) (a .cells .now) (a .index)) (pre .0 .1) (pre .1 .0) (row .steps) (row .cost) (omega (arith, l, g, q, row .height))),
+        subst ProgressOk (sym (c .landed .ensures)) (landing-ok (a .t) (a .t .height - 1) stay (rowAt (a .ops .now) (a .cells .now) (a .index)) (pre .0 .1) (pre .1 .0) (row .steps) (row .cost) (omega (arith, l, g, q, row .height))),
       ),
     )
 

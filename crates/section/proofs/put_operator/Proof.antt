@@ -45,7 +45,7 @@ compose-step-requires c κs =
     let row = c .before .before .before .before .before .before .before .one-row in
     let ops = row .last .1 .1 .1 .1 .0 in
     let cells = row .last .1 .1 .1 .1 .1 .0 in
-    ((a .pre .0 .0, step-fit (a .args .form) t (a .args .bound) (a .args .i) ops cells (row .ensures .0) (a .pre .0 .0 .valid) (a .pre .0 .2) (row .ensures .1 .0) (row .ensures .1 .1)), search needs)
+    ((a .pre .0 .0, step-fit (a .args .bound) (a .args .form) t (a .args .i) ops cells (row .ensures .0) (a .pre .0 .0 .valid) (a .pre .0 .2) (row .ensures .1 .0) (row .ensures .1 .1)), search needs)
 
 slice-aggregate-put-rendered : tie.Need-slice-aggregate-put-rendered
 slice-aggregate-put-rendered c = search needs
@@ -77,7 +77,7 @@ returns c =
     let d = c .before .before .before .before .before .before .before .before .before .before .before .compose-step .ensures in
     let put = c .before .before .put-rendered .ensures in
     let row = c .before .before .before .before .before .before .before .before .before .before .before .before .before .before .before .before .before .before .before .one-row in
-    (appends-is (sym (operator-drawn (a .args .form) t (a .args .bound) (a .args .i) (row .last .1 .1 .1 .1 .0) (row .last .1 .1 .1 .1 .1 .0) (row .ensures .0) (d .0) (a .args .p))) (put .0), omega (arith, d .1, put .1))
+    (appends-is (sym (operator-drawn (a .args .bound) (a .args .form) t (a .args .i) (row .last .1 .1 .1 .1 .0) (row .last .1 .1 .1 .1 .1 .0) (row .ensures .0) (d .0) (a .args .p))) (put .0), omega (arith, d .1, put .1))
 
 pub put-operator-spec : {M : Type 1} → statement M
 put-operator-spec =

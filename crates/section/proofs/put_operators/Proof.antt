@@ -37,7 +37,7 @@ compose-step-requires c κs =
     let row = c .before .before .before .before .before .before .before .one-row in
     let ops = row .last .1 .1 .1 .1 .0 in
     let cells = row .last .1 .1 .1 .1 .1 .0 in
-    ((a .pre .0 .0, step-fit (a .args .form) t (a .args .bound) (a .args .i) ops cells (row .ensures .0) (a .pre .0 .0 .valid) (a .pre .0 .2) (row .ensures .1 .0) (row .ensures .1 .1)), search needs)
+    ((a .pre .0 .0, step-fit (a .args .bound) (a .args .form) t (a .args .i) ops cells (row .ensures .0) (a .pre .0 .0 .valid) (a .pre .0 .2) (row .ensures .1 .0) (row .ensures .1 .1)), search needs)
 
 array-read-count : tie.Need-array-read-count
 array-read-count c = search needs
@@ -49,7 +49,7 @@ cast-count c =
     let row = c .before .before .before .before .before .before .before .before .before .before .before .one-row in
     let ops = row .last .1 .1 .1 .1 .0 in
     let cells = row .last .1 .1 .1 .1 .1 .0 in
-    omega (arith, step-few (a .args .form) t (a .args .bound) (a .args .i) ops cells (row .ensures .0) (a .pre .0 .0 .valid) (a .pre .0 .2), a .pre .0 .1)
+    omega (arith, step-few (a .args .bound) (a .args .form) t (a .args .i) ops cells (row .ensures .0) (a .pre .0 .0 .valid) (a .pre .0 .2), a .pre .0 .1)
 
 slice-aggregate-put-positions : tie.Need-slice-aggregate-put-positions
 slice-aggregate-put-positions c = search needs
@@ -67,7 +67,7 @@ put-positions-requires c κs =
     let row = c .before .before .before .before .before .before .before .before .before .before .before .before .before .before .before .one-row in
     let ops = row .last .1 .1 .1 .1 .0 in
     let cells = row .last .1 .1 .1 .1 .1 .0 in
-    let few = step-few (a .args .form) t (a .args .bound) (a .args .i) ops cells (row .ensures .0) (a .pre .0 .0 .valid) (a .pre .0 .2) in
+    let few = step-few (a .args .bound) (a .args .form) t (a .args .i) ops cells (row .ensures .0) (a .pre .0 .0 .valid) (a .pre .0 .2) in
     let d = c .before .before .before .before .before .before .before .compose-step .ensures in
     ((d .0 .sound, omega (arith, d .1), a .pre .1 .0), (d .1 .0, omega (arith, few, a .pre .0 .1), omega (arith, few, a .pre)))
 
@@ -81,9 +81,9 @@ returns c =
     let row = c .before .before .before .before .before .before .before .before .before .before .before .before .before .before .before .before .before .before .one-row in
     let ops = row .last .1 .1 .1 .1 .0 in
     let cells = row .last .1 .1 .1 .1 .1 .0 in
-    let few = step-few (a .args .form) t (a .args .bound) (a .args .i) ops cells (row .ensures .0) (a .pre .0 .0 .valid) (a .pre .0 .2) in
+    let few = step-few (a .args .bound) (a .args .form) t (a .args .i) ops cells (row .ensures .0) (a .pre .0 .0 .valid) (a .pre .0 .2) in
     let put = c .before .before .put-positions .ensures in
-    (appends-is (step-drawn (a .args .form) t (a .args .bound) (a .args .i) ops cells (row .ensures .0) (c .before .before .before .before .before .before .before .before .before .before .compose-step .ensures .0)) (put .0), omega (arith, few, a .pre .0 .1, put .1))
+    (appends-is (step-drawn (a .args .bound) (a .args .form) t (a .args .i) ops cells (row .ensures .0) (c .before .before .before .before .before .before .before .before .before .before .compose-step .ensures .0)) (put .0), omega (arith, few, a .pre .0 .1, put .1))
 
 pub put-operators-spec : {M : Type 1} → statement M
 put-operators-spec =

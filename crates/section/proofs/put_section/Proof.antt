@@ -30,7 +30,7 @@ returns c =
     let a = c .before .before .before .before .before .before .before .before .args in
     let t = tableOf (a .words .now) in
     let put = c .before .before .put-preamble .ensures in
-    begins _ (chosen-first (a .form) t (a .bound) (a .k) (c .before .before .before .before .if1 .taken)) (put .0) (omega (arith, put .1))
+    begins _ (chosen-first (a .bound) (a .form) t (a .k) (c .before .before .before .before .if1 .taken)) (put .0) (omega (arith, put .1))
 
 sub-put-variable : tie.Need-sub-put-variable
 sub-put-variable c = search needs
@@ -48,7 +48,7 @@ returns-2 c =
     let a = c .before .before .before .before .before .before .before .before .before .args in
     let t = tableOf (a .words .now) in
     let put = c .before .before .put-variable .ensures in
-    begins _ (chosen-variable (a .form) t (a .bound) (a .k) (c .before .before .before .before .before .if1 .left) (omega (arith, c .before .before .before .before .before .before .fact-count .ensures, c .before .before .before .before .if2 .taken))) (put .0) (omega (arith, put .1))
+    begins _ (chosen-variable (a .bound) (a .form) t (a .k) (c .before .before .before .before .before .if1 .left) (omega (arith, c .before .before .before .before .before .before .fact-count .ensures, c .before .before .before .before .if2 .taken))) (put .0) (omega (arith, put .1))
 
 add-if3 : tie.Need-add-if3
 add-if3 c = search needs
@@ -64,7 +64,7 @@ returns-3 c =
     let a = c .before .before .before .before .before .before .before .before .before .before .args in
     let t = tableOf (a .words .now) in
     let put = c .before .before .put-middle .ensures in
-    begins _ (chosen-middle (a .form) t (a .bound) (a .k) (omega (arith, c .before .before .before .before .before .before .before .fact-count .ensures, c .before .before .before .before .if3 .taken))) (put .0) (omega (arith, put .1))
+    begins _ (chosen-middle (a .bound) (a .form) t (a .k) (omega (arith, c .before .before .before .before .before .before .before .fact-count .ensures, c .before .before .before .before .if3 .taken))) (put .0) (omega (arith, put .1))
 
 sub-find : tie.Need-sub-find
 sub-find c = search needs
@@ -82,7 +82,7 @@ put-operator-requires : tie.Need-put-operator-requires
 put-operator-requires c κs =
     let a = c .before .before .before .before .before .before .before .before .before .before .before in
     let n = a .args .k - (c .before .before .before .before .before .before .before .before .fact-count .result + 1 + a .args .bound) - 2 in
-    let found = subst (λ (r : Found). IsFound (a .args .form) (tableOf (a .args .words .now)) (a .args .bound) n r) (c .before .before .i .given .1) (c .before .before .before .before .find .ensures) in
+    let found = subst (λ (r : Found). IsFound (a .args .bound) (a .args .form) (tableOf (a .args .words .now)) n r) (c .before .before .i .given .1) (c .before .before .before .before .find .ensures) in
     ((a .pre .0, a .pre .2, found .step), (found .position, a .pre .3))
 
 enum-known-over : tie.Need-enum-known-over
@@ -102,10 +102,10 @@ returns-4 c =
     let a = c .before .before .before .before .before .before .before .before .before .before .before .before .before .before .before .before .args in
     let t = tableOf (a .words .now) in
     let n = a .k - (c .before .before .before .before .before .before .before .before .before .before .before .before .before .fact-count .result + 1 + a .bound) - 2 in
-    let found = subst (λ (r : Found). IsFound (a .form) t (a .bound) n r) (c .before .before .before .before .before .before .before .over .given .1) (c .before .before .before .before .before .before .before .before .before .find .ensures) in
+    let found = subst (λ (r : Found). IsFound (a .bound) (a .form) t n r) (c .before .before .before .before .before .before .before .over .given .1) (c .before .before .before .before .before .before .before .before .before .find .ensures) in
     let e : a .k ≡ variableCount t (a .bound) + 2 + n = omega (arith, c .before .before .before .before .before .before .before .before .before .before .before .before .before .fact-count .ensures, c .before .before .before .before .before .before .before .before .before .before .before .if2 .left, c .before .before .before .before .before .before .before .before .before .before .if3 .left) in
     let put = c .before .before .put .ensures in
-    begins _ (chosen-last (a .form) t (a .bound) (a .k) n e (omega (arith, found, c .before .before .before .before .before .if4 .taken))) put (omega (arith, put .next))
+    begins _ (chosen-last (a .bound) (a .form) t (a .k) n e (omega (arith, found, c .before .before .before .before .before .if4 .taken))) put (omega (arith, put .next))
 
 same-length-5 : tie.Need-same-length-5
 same-length-5 c = search needs
@@ -115,19 +115,19 @@ returns-5 c =
     let a = c .before .before .before .before .before .before .before .before .before .before .before .before .before .before .args in
     let t = tableOf (a .words .now) in
     let n = a .k - (c .before .before .before .before .before .before .before .before .before .before .before .fact-count .result + 1 + a .bound) - 2 in
-    let found = subst (λ (r : Found). IsFound (a .form) t (a .bound) n r) (c .before .before .before .before .before .i .given .1) (c .before .before .before .before .before .before .before .find .ensures) in
+    let found = subst (λ (r : Found). IsFound (a .bound) (a .form) t n r) (c .before .before .before .before .before .i .given .1) (c .before .before .before .before .before .before .before .find .ensures) in
     let e : a .k ≡ variableCount t (a .bound) + 2 + n = omega (arith, c .before .before .before .before .before .before .before .before .before .before .before .fact-count .ensures, c .before .before .before .before .before .before .before .before .before .if2 .left, c .before .before .before .before .before .before .before .before .if3 .left) in
     let put = c .before .before .put-operator .ensures in
-    begins _ (chosen-operator (a .form) t (a .bound) (a .k) n e _ _ found) (put .0) (put .1)
+    begins _ (chosen-operator (a .bound) (a .form) t (a .k) n e _ _ found) (put .0) (put .1)
 
 returns-6 : tie.Need-returns-6
 returns-6 c =
     let a = c .before .before .before .before .before .before .before .before .before .before .before .args in
     let t = tableOf (a .words .now) in
     let n = a .k - (c .before .before .before .before .before .before .before .before .fact-count .result + 1 + a .bound) - 2 in
-    let found = subst (λ (r : Found). IsFound (a .form) t (a .bound) n r) (c .before .before .over .given .1) (c .before .before .before .before .find .ensures) in
+    let found = subst (λ (r : Found). IsFound (a .bound) (a .form) t n r) (c .before .before .over .given .1) (c .before .before .before .before .find .ensures) in
     let e : a .k ≡ variableCount t (a .bound) + 2 + n = omega (arith, c .before .before .before .before .before .before .before .before .fact-count .ensures, c .before .before .before .before .before .before .if2 .left, c .before .before .before .before .before .if3 .left) in
-    refused (a .space .now) _ (chosen-none (a .form) t (a .bound) (a .k) n e _ found (c .if4 .left))
+    refused (a .space .now) _ (chosen-none (a .bound) (a .form) t (a .k) n e _ found (c .if4 .left))
 
 pub put-section-spec : {M : Type 1} → statement M
 put-section-spec =

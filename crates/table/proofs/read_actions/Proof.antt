@@ -1,8 +1,8 @@
 use Rattle.rules.specs.Tables.{Action, readAction}
-use Rattle.rules.specs.Readings.{got, many}
+use Rattle.basics.specs.Readings.{got, many}
 use Rattle.table.specs.Answers.{actOf}
 use Rattle.words.specs.Words.{actionOf}
-use Rattle.rules.specs.Lists.{rows}
+use Rattle.basics.specs.Lists.{rows}
 use Rattle.numbers.proofs.AnswerLaws.{via}
 use Rattle.table.proofs.WordLaws.{many-bad, turn, action-kept}
 use Rattle.laws.proofs.StoreLaws.{kept-less}

@@ -2,7 +2,7 @@ use mathlib.Core.Path.{refl, ap, sym, _∙_}
 use native.Mathlib.Omega.{arith}
 use lib.ListN.{length-set}
 use Rattle.numbers.specs.Answers.{numOf}
-use Rattle.table.specs.Answers.{stepOf}
+use Rattle.table.specs.Answers.{onwardOf}
 use Rattle.rules.specs.Tables.{readMethod}
 use Rattle.laws.proofs.NumberLaws.{ranged-got}
 use Rattle.numbers.proofs.AnswerLaws.{via}
@@ -79,7 +79,7 @@ returns-3 c =
     let n = c .before .before .before .before .before .n .given .0 .0 in
     let w = sub .last .1 .1 .0 in
     let m = put-method (a .words .now) w (a .b) head n (omega arith) (sub .ensures .1) in
-    (ap (stepOf (sub .result)) (m .1) ∙ sym (method-got (a .s .now) (a .lo) (a .hi) (a .at) (sub .result) _ e f (sub .ensures .0)), m .0)
+    (ap (onwardOf (sub .result)) (m .1) ∙ sym (method-got (a .s .now) (a .lo) (a .hi) (a .at) (sub .result) _ e f (sub .ensures .0)), m .0)
 
 pub read-method-spec : {M : Type 1} → statement M
 read-method-spec =

@@ -1,13 +1,13 @@
-use Rattle.table.specs.declared.Step.{Step}
+use Rattle.table.specs.declared.Onward.{Onward}
 use mathlib.Core.Path.{_≡_, refl, sym, subst, _∙_}
 use Prim.Native.Nat.{ℕ, _≤_, _-_, _+_, _*_}
 use native.Mathlib.Omega.{arith}
 use lib.ListN.{length, take}
-use Rattle.rules.specs.Readings.{got, many}
+use Rattle.basics.specs.Readings.{got, many}
 use Rattle.rules.specs.Tables.{readMethod}
 use Rattle.words.specs.Words.{methodOf}
-use Rattle.rules.specs.Lists.{rows}
-use Rattle.table.specs.Answers.{stepOf}
+use Rattle.basics.specs.Lists.{rows}
+use Rattle.table.specs.Answers.{onwardOf}
 use Rattle.numbers.proofs.AnswerLaws.{via}
 use Rattle.table.proofs.WordLaws.{many-bad, turn, method-kept}
 use Rattle.laws.proofs.StoreLaws.{kept-less}
@@ -46,7 +46,7 @@ returns c =
     let l = c .before .before .before .before .before .before .before .before .loop in
     let m = c .before .before .before .before .before .read-method in
     let w = m .last .1 .1 .0 in (
-      sym (many-bad (readMethod (a .s .now) (a .lo) (a .hi)) (a .at) (a .n) (l .k) (c .before .before .before .before .before .before .before .loop-test .taken) (l .inv .3) (via (λ (r : Step). stepOf r (methodOf w (l .k))) (m .ensures .0) (c .before .why .given .1))),
+      sym (many-bad (readMethod (a .s .now) (a .lo) (a .hi)) (a .at) (a .n) (l .k) (c .before .before .before .before .before .before .before .loop-test .taken) (l .inv .3) (via (λ (r : Onward). onwardOf r (methodOf w (l .k))) (m .ensures .0) (c .before .why .given .1))),
       kept-less (l .words) w 1027 (1027 + 10 * l .k) (omega arith) (m .ensures .1) ∙ l .inv .2,
     )
 
@@ -69,7 +69,7 @@ loop-again c =
       m .kept .1 .1 .0 ∙ l .inv .1,
       kept-less (l .words) w 1027 (1027 + 10 * l .k) (omega arith) (m .ensures .1) ∙ l .inv .2,
       turn methodOf (readMethod (a .s .now) (a .lo) (a .hi)) (a .at) (l .words) w (l .k) (l .inv .3)
-          (via (λ (r : Step). stepOf r (methodOf w (l .k))) (m .ensures .0) (c .before .next .given .1))
+          (via (λ (r : Onward). onwardOf r (methodOf w (l .k))) (m .ensures .0) (c .before .next .given .1))
           (method-kept (a .s .now) (a .lo) (a .hi) (a .at) (l .words) w (l .k) (l .inv .3) (m .ensures .1)),
     )
 

@@ -3,8 +3,8 @@ use Prim.Native.Nat.{ℕ, _≤_, _-_, _+_}
 use native.Mathlib.Omega.{arith}
 use lib.ListN.{length, take, set, length-set}
 use lib.Seq.{take-set-le}
-use Rattle.rules.specs.Lists.{rows}
-use Rattle.rules.specs.Readings.{got, many}
+use Rattle.basics.specs.Lists.{rows}
+use Rattle.basics.specs.Readings.{got, many}
 use Rattle.rules.specs.Numbers.{ranged}
 use Rattle.words.specs.Words.{cellOf}
 use Rattle.numbers.specs.Answers.{numOf}

@@ -1,12 +1,12 @@
 use mathlib.Core.Path.{ap}
 use native.Mathlib.Omega.{arith}
 use borrow.Author.Tests.{lt-ltb, le-ltb}
-use Rattle.rules.specs.Readings.{got}
+use Rattle.basics.specs.Readings.{got}
 use Rattle.rules.specs.Tables.{Table, decode, closed}
-use Rattle.rules.specs.Lists.{rows}
+use Rattle.basics.specs.Lists.{rows}
 use Rattle.words.specs.Words.{actionOf, methodOf}
-use Rattle.table.specs.Answers.{headerRead, headOf, stepOf}
-use Rattle.table.specs.declared.Step.{Step}
+use Rattle.table.specs.Answers.{headerRead, headOf, onwardOf}
+use Rattle.table.specs.declared.Onward.{Onward}
 use Rattle.numbers.proofs.AnswerLaws.{via}
 use Rattle.table.proofs.WordLaws.{table-held}
 use Rattle.laws.proofs.TableLaws.{bounded}
@@ -56,7 +56,7 @@ returns-2 c =
     rw (
       via headOf (c .before .before .before .before .before .before .before .before .before .before .before .before .before .before .before .read-header .ensures) (c .before .before .before .before .before .before .before .before .before .before .before .before .before .h .given .1),
       ← c .before .before .before .before .before .before .before .all-facts .ensures,
-      via (λ (r : Step). stepOf r (rows (actionOf (c .before .before .before .before .before .read-actions .last .1 .1 .0)) (c .before .before .before .before .before .before .before .before .before .before .before .before .before .h .given .0 .0 .actions))) (c .before .before .before .before .before .read-actions .ensures .0) (c .before .why2 .given .1),
+      via (λ (r : Onward). onwardOf r (rows (actionOf (c .before .before .before .before .before .read-actions .last .1 .1 .0)) (c .before .before .before .before .before .before .before .before .before .before .before .before .before .h .given .0 .0 .actions))) (c .before .before .before .before .before .read-actions .ensures .0) (c .before .why2 .given .1),
     )
 
 enum-known-p : tie.Need-enum-known-p
@@ -95,8 +95,8 @@ returns-3 c =
     rw (
       via headOf (c .before .before .before .before .before .before .before .before .before .before .before .before .before .before .before .before .before .before .before .before .before .before .before .read-header .ensures) (c .before .before .before .before .before .before .before .before .before .before .before .before .before .before .before .before .before .before .before .before .before .h .given .1),
       ← c .before .before .before .before .before .before .before .before .before .before .before .before .before .before .before .all-facts .ensures,
-      via (λ (r : Step). stepOf r (rows (actionOf (c .before .before .before .before .before .before .before .before .before .before .before .before .before .read-actions .last .1 .1 .0)) (c .before .before .before .before .before .before .before .before .before .before .before .before .before .before .before .before .before .before .before .before .before .h .given .0 .0 .actions))) (c .before .before .before .before .before .before .before .before .before .before .before .before .before .read-actions .ensures .0) (c .before .before .before .before .before .before .before .before .before .p .given .1),
-      via (λ (r : Step). stepOf r (rows (methodOf (c .before .before .before .before .before .read-methods .last .1 .1 .0)) (c .before .before .before .before .before .before .before .before .before .before .before .before .before .before .before .before .before .before .before .before .before .h .given .0 .0 .methods))) (c .before .before .before .before .before .read-methods .ensures .0) (c .before .why3 .given .1),
+      via (λ (r : Onward). onwardOf r (rows (actionOf (c .before .before .before .before .before .before .before .before .before .before .before .before .before .read-actions .last .1 .1 .0)) (c .before .before .before .before .before .before .before .before .before .before .before .before .before .before .before .before .before .before .before .before .before .h .given .0 .0 .actions))) (c .before .before .before .before .before .before .before .before .before .before .before .before .before .read-actions .ensures .0) (c .before .before .before .before .before .before .before .before .before .p .given .1),
+      via (λ (r : Onward). onwardOf r (rows (methodOf (c .before .before .before .before .before .read-methods .last .1 .1 .0)) (c .before .before .before .before .before .before .before .before .before .before .before .before .before .before .before .before .before .before .before .before .before .h .given .0 .0 .methods))) (c .before .before .before .before .before .read-methods .ensures .0) (c .before .why3 .given .1),
     )
 
 enum-known-e : tie.Need-enum-known-e
@@ -111,8 +111,8 @@ returns-4 c =
     rw (
       via headOf (c .before .before .before .before .before .before .before .before .before .before .before .before .before .before .before .before .before .before .before .before .before .before .before .before .read-header .ensures) (c .before .before .before .before .before .before .before .before .before .before .before .before .before .before .before .before .before .before .before .before .before .before .h .given .1),
       ← c .before .before .before .before .before .before .before .before .before .before .before .before .before .before .before .before .all-facts .ensures,
-      via (λ (r : Step). stepOf r (rows (actionOf (c .before .before .before .before .before .before .before .before .before .before .before .before .before .before .read-actions .last .1 .1 .0)) (c .before .before .before .before .before .before .before .before .before .before .before .before .before .before .before .before .before .before .before .before .before .before .h .given .0 .0 .actions))) (c .before .before .before .before .before .before .before .before .before .before .before .before .before .before .read-actions .ensures .0) (c .before .before .before .before .before .before .before .before .before .before .p .given .1),
-      via (λ (r : Step). stepOf r (rows (methodOf (c .before .before .before .before .before .before .read-methods .last .1 .1 .0)) (c .before .before .before .before .before .before .before .before .before .before .before .before .before .before .before .before .before .before .before .before .before .before .h .given .0 .0 .methods))) (c .before .before .before .before .before .before .read-methods .ensures .0) (c .before .before .e .given .1),
+      via (λ (r : Onward). onwardOf r (rows (actionOf (c .before .before .before .before .before .before .before .before .before .before .before .before .before .before .read-actions .last .1 .1 .0)) (c .before .before .before .before .before .before .before .before .before .before .before .before .before .before .before .before .before .before .before .before .before .before .h .given .0 .0 .actions))) (c .before .before .before .before .before .before .before .before .before .before .before .before .before .before .read-actions .ensures .0) (c .before .before .before .before .before .before .before .before .before .before .p .given .1),
+      via (λ (r : Onward). onwardOf r (rows (methodOf (c .before .before .before .before .before .before .read-methods .last .1 .1 .0)) (c .before .before .before .before .before .before .before .before .before .before .before .before .before .before .before .before .before .before .before .before .before .before .h .given .0 .0 .methods))) (c .before .before .before .before .before .before .read-methods .ensures .0) (c .before .before .e .given .1),
       lt-ltb _ _ (c .if1 .taken),
     )
 
@@ -130,8 +130,8 @@ returns-5 c =
     rw (
       via headOf (c .before .before .before .before .before .before .before .before .before .before .before .before .before .before .before .before .before .before .before .before .before .before .before .before .read-header .ensures) (c .before .before .before .before .before .before .before .before .before .before .before .before .before .before .before .before .before .before .before .before .before .before .h .given .1),
       ← c .before .before .before .before .before .before .before .before .before .before .before .before .before .before .before .before .all-facts .ensures,
-      via (λ (r : Step). stepOf r (rows (actionOf (c .before .before .before .before .before .before .before .before .before .before .before .before .before .before .read-actions .last .1 .1 .0)) (c .before .before .before .before .before .before .before .before .before .before .before .before .before .before .before .before .before .before .before .before .before .before .h .given .0 .0 .actions))) (c .before .before .before .before .before .before .before .before .before .before .before .before .before .before .read-actions .ensures .0) (c .before .before .before .before .before .before .before .before .before .before .p .given .1),
-      via (λ (r : Step). stepOf r (rows (methodOf (c .before .before .before .before .before .before .read-methods .last .1 .1 .0)) (c .before .before .before .before .before .before .before .before .before .before .before .before .before .before .before .before .before .before .before .before .before .before .h .given .0 .0 .methods))) (c .before .before .before .before .before .before .read-methods .ensures .0) (c .before .before .e .given .1),
+      via (λ (r : Onward). onwardOf r (rows (actionOf (c .before .before .before .before .before .before .before .before .before .before .before .before .before .before .read-actions .last .1 .1 .0)) (c .before .before .before .before .before .before .before .before .before .before .before .before .before .before .before .before .before .before .before .before .before .before .h .given .0 .0 .actions))) (c .before .before .before .before .before .before .before .before .before .before .before .before .before .before .read-actions .ensures .0) (c .before .before .before .before .before .before .before .before .before .before .p .given .1),
+      via (λ (r : Onward). onwardOf r (rows (methodOf (c .before .before .before .before .before .before .read-methods .last .1 .1 .0)) (c .before .before .before .before .before .before .before .before .before .before .before .before .before .before .before .before .before .before .before .before .before .before .h .given .0 .0 .methods))) (c .before .before .before .before .before .before .read-methods .ensures .0) (c .before .before .e .given .1),
       le-ltb _ _ (c .if1 .left),
     )
     (ap (λ (x : Table). got x (c .before .before .e .given .0 .0)) t)

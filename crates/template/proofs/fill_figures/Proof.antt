@@ -2,7 +2,7 @@ use Prim.Native.Nat.{ℕ, _*_, _-_, _≤_}
 use mathlib.Core.Path.{_≡_, refl, ap, _∙_}
 use native.Mathlib.Omega.{arith}
 use lib.ListN.{take}
-use Rattle.rules.specs.Lists.{upto}
+use Rattle.basics.specs.Lists.{upto}
 use Rattle.laws.proofs.TextLaws.{upto-more}
 use Rattle.text.specs.Appends.{Appends}
 use Rattle.text.proofs.AppendLaws.{appends-none, appends-is, _▸_}

@@ -1,7 +1,7 @@
 use Prim.Native.Nat.{_+_, _*_, _-_, _≤_, zero-le}
 use mathlib.Core.Path.{_≡_, ap}
 use native.Mathlib.Omega.{arith}
-use Rattle.rules.specs.Lists.{upto}
+use Rattle.basics.specs.Lists.{upto}
 use Rattle.laws.proofs.TextLaws.{upto-more}
 use Rattle.text.specs.Appends.{Appends}
 use Rattle.text.proofs.AppendLaws.{appends-none, appends-is, _▸_}

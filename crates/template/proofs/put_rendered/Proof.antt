@@ -2,7 +2,7 @@ use Prim.Native.Nat.{_+_, _*_, _-_, _≤_, zero-le}
 use mathlib.Core.Path.{_≡_, refl}
 use lib.ListN.{getD}
 use native.Mathlib.Omega.{arith}
-use Rattle.rules.specs.Lists.{upto, sumTo}
+use Rattle.basics.specs.Lists.{upto, sumTo}
 use Rattle.laws.proofs.ListLaws.{sum-more}
 use Rattle.text.specs.Appends.{Appends}
 use Rattle.text.proofs.AppendLaws.{appends-none}

@@ -2,7 +2,7 @@ use Prim.Native.Nat.{_+_, _*_, _-_, _≤_}
 use mathlib.Core.Path.{_≡_, ap, _∙_}
 use native.Mathlib.Omega.{arith}
 use borrow.Author.Needs.{needs}
-use Rattle.rules.specs.Lists.{upto}
+use Rattle.basics.specs.Lists.{upto}
 use Rattle.rules.specs.Sections.{valueLine}
 use Rattle.laws.proofs.TextLaws.{upto-more, concat-members}
 use Rattle.text.specs.Appends.{Appends}

@@ -5,7 +5,7 @@ use native.Mathlib.Omega.{arith}
 use borrow.Author.Needs.{needs}
 use lib.ListN.{length}
 use lib.Seq.{length-sets}
-use Rattle.rules.specs.Answers.{answer, refusal, lengthOf}
+use Rattle.basics.specs.Answers.{answer, refusal, lengthOf}
 use Rattle.rules.specs.declared.Verdict.{Verdict}
 use Rattle.rules.specs.Checks.{verdictOf}
 use Rattle.theorems.proofs.Expansion.{expansion-refused}

@@ -2,12 +2,12 @@ use mathlib.Core.Path.{_≡_, sym, ap, _∙_}
 use Prim.Native.Nat.{ℕ}
 use native.Mathlib.Omega.{arith}
 use borrow.Author.Needs.{needs}
-use Rattle.rules.specs.Answers.{refusal}
+use Rattle.basics.specs.Answers.{refusal}
 use Rattle.rules.specs.Refusals.{checkPlan}
 use Rattle.words.specs.Words.{tableOf}
 use Rattle.numbers.proofs.AnswerLaws.{via}
-use Rattle.table.specs.Answers.{stepOf}
-use Rattle.table.specs.declared.Step.{Step}
+use Rattle.table.specs.Answers.{onwardOf}
+use Rattle.table.specs.declared.Onward.{Onward}
 use Rattle.table.proofs.AnswerLaws.{read-held}
 use Rattle.laws.proofs.RefusalLaws.{plan-long, plan-passes, table-bad, table-got}
 use Rattle.rows.proofs.RowLaws.{row-ok}
@@ -76,7 +76,7 @@ returns-3 c =
     let early = sym (c .before .before .before .before .before .before .before .before .before .early .ensures) ∙ c .before .before .before .before .before .before .before .before .if1 .left in (
       sym (early-passes (a .bound) (a .form) (a .table .now) _ early
           ∙ plan-passes _ (a .plan .now) (c .before .before .before .before .before .before .before .if2 .left)
-          ∙ table-bad (a .table .now) _ (via (λ (r : Step). stepOf r (tableOf w)) (read .ensures) (c .before .why .given .1))),
+          ∙ table-bad (a .table .now) _ (via (λ (r : Onward). onwardOf r (tableOf w)) (read .ensures) (c .before .why .given .1))),
       (tt, tt),
     )
 
@@ -96,7 +96,7 @@ returns-4 c =
     let read = c .before .before .before .before .before .before .before .before .before .before .before .before .before .before .before .before .read-table in
     let w = read .last .1 .0 in
     let early = sym (c .before .before .before .before .before .before .before .before .before .before .before .before .before .before .before .before .before .before .before .before .early .ensures) ∙ c .before .before .before .before .before .before .before .before .before .before .before .before .before .before .before .before .before .before .before .if1 .left in
-    let told = via (λ (r : Step). stepOf r (tableOf w)) (read .ensures) (c .before .before .before .before .before .before .before .before .before .before .before .before .enum-told .given .1) in
+    let told = via (λ (r : Onward). onwardOf r (tableOf w)) (read .ensures) (c .before .before .before .before .before .before .before .before .before .before .before .before .enum-told .given .1) in
     let held = read-held (a .args .table .now) w (read .result) (omega (arith, read .kept .1 .0, a .pre .0)) (read .ensures) (c .before .before .before .before .before .before .before .before .before .before .before .before .enum-told .given .1) in (
       c .check .ensures .1
           ∙ sym (early-passes (a .args .bound) (a .args .form) (a .args .table .now) _ early

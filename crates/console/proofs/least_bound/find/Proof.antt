@@ -3,11 +3,11 @@ use mathlib.Core.List.{List}
 use Prim.Native.Nat.{ℕ, _≤_}
 use native.Mathlib.Omega.{arith}
 use borrow.Author.Needs.{needs}
-use Rattle.rules.specs.Answers.{answer}
+use Rattle.basics.specs.Answers.{answer}
 use Rattle.rules.specs.Refusals.{findLeast}
 use Rattle.words.specs.Words.{tableOf}
-use Rattle.table.specs.Answers.{stepOf}
-use Rattle.table.specs.declared.Step.{Step}
+use Rattle.table.specs.Answers.{onwardOf}
+use Rattle.table.specs.declared.Onward.{Onward}
 use Rattle.numbers.proofs.AnswerLaws.{via}
 use Rattle.table.proofs.AnswerLaws.{read-held}
 use Rattle.laws.proofs.RefusalLaws.{table-long, table-passes, table-bad, table-got}
@@ -46,7 +46,7 @@ returns-2 c =
     let read = c .before .before .before .before .read-table in
     let w = read .last .1 .0 in
     sym (table-passes _ (a .table .now) (c .before .before .before .before .before .before .if1 .left)
-    ∙ table-bad (a .table .now) _ (via (λ (r : Step). stepOf r (tableOf w)) (read .ensures) (c .before .why .given .1)))
+    ∙ table-bad (a .table .now) _ (via (λ (r : Onward). onwardOf r (tableOf w)) (read .ensures) (c .before .why .given .1)))
 
 returns-3 : tie.Need-returns-3
 unfolding findLeast
@@ -56,7 +56,7 @@ returns-3 c =
     let w = read .last .1 .0 in
     ap answer (c .least .ensures)
     ∙ sym (table-passes _ (a .table .now) (c .before .before .before .before .before .before .before .if1 .left)
-    ∙ table-got (a .table .now) _ (via (λ (r : Step). stepOf r (tableOf w)) (read .ensures) (c .before .before .enum-told .given .1)))
+    ∙ table-got (a .table .now) _ (via (λ (r : Onward). onwardOf r (tableOf w)) (read .ensures) (c .before .before .enum-told .given .1)))
 
 pub find-spec : {M : Type 1} → statement M
 find-spec =

@@ -1,7 +1,7 @@
 use mathlib.Core.Path.{ap, _∙_}
 use lib.ListN.{length}
 use borrow.Author.Needs.{needs}
-use Rattle.rules.specs.Answers.{numberOf}
+use Rattle.basics.specs.Answers.{numberOf}
 use Rattle.rules.specs.Refusals.{oneSection}
 use Rattle.console.proofs.WriteLaws.{length-number}
 use Rattle.console.proofs.one_section.ildorzhen_section_number.Statement.{statement}

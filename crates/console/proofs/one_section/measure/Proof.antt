@@ -2,12 +2,12 @@ use mathlib.Core.Path.{sym, ap, _∙_}
 use Prim.Native.Nat.{ℕ}
 use native.Mathlib.Omega.{arith}
 use borrow.Author.Needs.{needs}
-use Rattle.rules.specs.Answers.{refusal, lengthOf}
+use Rattle.basics.specs.Answers.{refusal, lengthOf}
 use Rattle.rules.specs.Sections.{sectionsOf}
 use Rattle.rules.specs.Refusals.{chosen}
 use Rattle.words.specs.Words.{tableOf}
-use Rattle.table.specs.Answers.{stepOf}
-use Rattle.table.specs.declared.Step.{Step}
+use Rattle.table.specs.Answers.{onwardOf}
+use Rattle.table.specs.declared.Onward.{Onward}
 use Rattle.numbers.proofs.AnswerLaws.{via}
 use Rattle.table.proofs.AnswerLaws.{read-held}
 use Rattle.console.specs.Rooms.{roomAt}
@@ -58,7 +58,7 @@ returns-2 c =
     let a = c .before .before .before .before .before .before .before .before .before .args in
     let read = c .before .before .before .before .read-table in
     let early = sym (c .before .before .before .before .before .before .before .early .ensures) ∙ c .before .before .before .before .before .before .if1 .left in
-    let e = via (λ (r : Step). stepOf r (tableOf (read .last .1 .0))) (read .ensures) (c .before .why .given .1) in
+    let e = via (λ (r : Onward). onwardOf r (tableOf (read .last .1 .0))) (read .ensures) (c .before .why .given .1) in
     sym (ap lengthOf (one-bad (a .bound) (a .form) (a .table .now) (a .index) (a .size) (a .at) early e))
 
 returns-3 : tie.Need-returns-3
@@ -67,10 +67,10 @@ returns-3 c =
     let read = c .before .before .before .before .before .before .before .before .read-table in
     let w = read .last .1 .0 in
     let early = sym (c .before .before .before .before .before .before .before .before .before .before .before .early .ensures) ∙ c .before .before .before .before .before .before .before .before .before .before .if1 .left in
-    let e = via (λ (r : Step). stepOf r (tableOf w)) (read .ensures) (c .before .before .before .before .before .enum-told .given .1) in
+    let e = via (λ (r : Onward). onwardOf r (tableOf w)) (read .ensures) (c .before .before .before .before .before .enum-told .given .1) in
     c .room .ensures
     ∙ ap (roomAt (a .size) (a .at)) (c .before .before .put-section .ensures .0)
-    ∙ room-length (a .size) (a .at) (chosen (sectionsOf (a .form) (tableOf w) (a .bound)) (a .index))
+    ∙ room-length (a .size) (a .at) (chosen (sectionsOf (a .bound) (a .form) (tableOf w)) (a .index))
     ∙ sym (ap lengthOf (one-got (a .bound) (a .form) (a .table .now) (a .index) (a .size) (a .at) early e))
 
 pub measure-spec : {M : Type 1} → statement M

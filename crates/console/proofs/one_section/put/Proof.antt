@@ -2,7 +2,7 @@ use mathlib.Core.Path.{sym, ap, _∙_}
 use native.Mathlib.Omega.{arith}
 use borrow.Author.Needs.{needs}
 use lib.ListN.{length}
-use Rattle.rules.specs.Answers.{replyOf, lengthOf}
+use Rattle.basics.specs.Answers.{replyOf, lengthOf}
 use Rattle.rules.specs.Sections.{sectionsOf}
 use Rattle.rules.specs.Refusals.{chosen, written}
 use Rattle.words.specs.Words.{tableOf}
@@ -27,7 +27,7 @@ enum-known-bytes c = search needs
 returns : tie.Need-returns
 returns c =
     let a = c .before .before .before .before .before .before .before .before .before .args in
-    let x = chosen (sectionsOf (a .form) (tableOf (a .words .now)) (a .bound)) (a .index) in
+    let x = chosen (sectionsOf (a .bound) (a .form) (tableOf (a .words .now))) (a .index) in
     let e = via replyOf (c .before .before .before .before .before .put-section .ensures .0) (c .before .before .bytes .given .1) in
     let q = put-short x (length (a .part .now)) e (c .if1 .taken) in
     (sym (ap lengthOf q), kept (a .part .now) 0 _ q)
@@ -35,28 +35,28 @@ returns c =
 array-share-prefix-space : tie.Need-array-share-prefix-space
 array-share-prefix-space c =
     let a = c .before .before .before .before .before .before .before .before .before .before .args in
-    let x = chosen (sectionsOf (a .form) (tableOf (a .words .now)) (a .bound)) (a .index) in
+    let x = chosen (sectionsOf (a .bound) (a .form) (tableOf (a .words .now))) (a .index) in
     let e = via replyOf (c .before .before .before .before .before .before .put-section .ensures .0) (c .before .before .before .bytes .given .1) in
     omega (arith, put-low x _ e (c .before .before .before .before .before .before .put-section .ensures .1))
 
 slice-aggregate-copy : tie.Need-slice-aggregate-copy
 slice-aggregate-copy c =
     let a = c .before .before .before .before .before .before .before .before .before .before .before .args in
-    let x = chosen (sectionsOf (a .form) (tableOf (a .words .now)) (a .bound)) (a .index) in
+    let x = chosen (sectionsOf (a .bound) (a .form) (tableOf (a .words .now))) (a .index) in
     let e = via replyOf (c .before .before .before .before .before .before .before .put-section .ensures .0) (c .before .before .before .before .bytes .given .1) in
     omega (arith, put-front x _ e (c .before .before .before .before .before .before .before .put-section .ensures .1))
 
 copy-requires : tie.Need-copy-requires
 copy-requires c κs =
     let a = c .before .before .before .before .before .before .before .before .before .before .before .args in
-    let x = chosen (sectionsOf (a .form) (tableOf (a .words .now)) (a .bound)) (a .index) in
+    let x = chosen (sectionsOf (a .bound) (a .form) (tableOf (a .words .now))) (a .index) in
     let e = via replyOf (c .before .before .before .before .before .before .before .put-section .ensures .0) (c .before .before .before .before .bytes .given .1) in
     omega (arith, put-front x _ e (c .before .before .before .before .before .before .before .put-section .ensures .1), c .before .before .if1 .left)
 
 returns-2 : tie.Need-returns-2
 returns-2 c =
     let a = c .before .before .before .before .before .before .before .before .args in
-    let x = chosen (sectionsOf (a .form) (tableOf (a .words .now)) (a .bound)) (a .index) in
+    let x = chosen (sectionsOf (a .bound) (a .form) (tableOf (a .words .now))) (a .index) in
     let e = via replyOf (c .before .before .before .before .put-section .ensures .0) (c .before .number .given .1) in
     let q = put-refused x (length (a .part .now)) e in
     (sym (ap lengthOf q), kept (a .part .now) 0 _ q)
@@ -67,7 +67,7 @@ same-length c = search needs
 returns-3 : tie.Need-returns-3
 returns-3 c =
     let a = c .before .before .before .before .before .before .before .before .before .before .before .before .before .before .args in
-    let x = chosen (sectionsOf (a .form) (tableOf (a .words .now)) (a .bound)) (a .index) in
+    let x = chosen (sectionsOf (a .bound) (a .form) (tableOf (a .words .now))) (a .index) in
     let e = via replyOf (c .before .before .before .before .before .before .before .before .before .before .put-section .ensures .0) (c .before .before .before .before .before .before .before .bytes .given .1) in
     let l = c .before .before .before .before .before .if1 .left in
     let q = put-fits x (length (a .part .now)) e l in (

@@ -1,8 +1,8 @@
 use mathlib.Core.Path.{sym, ap, _∙_}
 use native.Mathlib.Omega.{arith}
 use borrow.Author.Needs.{needs}
-use Rattle.rules.specs.Answers.{replyOf}
-use Rattle.rules.specs.declared.Reply.{Reply}
+use Rattle.basics.specs.Answers.{replyOf}
+use Rattle.basics.specs.declared.Reply.{Reply}
 use Rattle.console.specs.Rooms.{roomAt}
 use Rattle.console.proofs.SectionCallLaws.{room-short, room-fits, room-refused}
 use Rattle.console.proofs.one_section.room.Statement.{statement}

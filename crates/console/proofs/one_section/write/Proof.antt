@@ -4,12 +4,12 @@ use native.Mathlib.Omega.{arith}
 use borrow.Author.Needs.{needs}
 use borrow.Rule.Slice.PartMut.{putMid}
 use lib.ListN.{length, take, drop}
-use Rattle.rules.specs.Answers.{refusal, after, lengthOf}
+use Rattle.basics.specs.Answers.{refusal, after, lengthOf}
 use Rattle.rules.specs.Sections.{sectionsOf}
 use Rattle.rules.specs.Refusals.{chosen, roomFor, written}
 use Rattle.words.specs.Words.{tableOf}
-use Rattle.table.specs.Answers.{stepOf}
-use Rattle.table.specs.declared.Step.{Step}
+use Rattle.table.specs.Answers.{onwardOf}
+use Rattle.table.specs.declared.Onward.{Onward}
 use Rattle.numbers.proofs.AnswerLaws.{via}
 use Rattle.table.proofs.AnswerLaws.{read-held}
 use Rattle.console.proofs.WriteLaws.{kept}
@@ -72,7 +72,7 @@ returns-3 c =
     let a = c .before .before .before .before .before .before .before .before .before .before .before .args in
     let read = c .before .before .before .before .read-table in
     let early = sym (c .before .before .before .before .before .before .before .early .ensures) ∙ c .before .before .before .before .before .before .if2 .left in
-    let e = via (λ (r : Step). stepOf r (tableOf (read .last .1 .0))) (read .ensures) (c .before .why .given .1) in
+    let e = via (λ (r : Onward). onwardOf r (tableOf (read .last .1 .0))) (read .ensures) (c .before .why .given .1) in
     let q = one-bad (a .bound) (a .form) (a .table .now) (a .index) (length (a .text .now)) (a .at) early e in
     (sym (ap lengthOf q), kept (a .text .now) (a .at) _ q)
 
@@ -85,9 +85,9 @@ returns-4 c =
     let read = c .before .before .before .before .before .before .before .before .read-table in
     let w = read .last .1 .0 in
     let early = sym (c .before .before .before .before .before .before .before .before .before .before .before .early .ensures) ∙ c .before .before .before .before .before .before .before .before .before .before .if2 .left in
-    let e = via (λ (r : Step). stepOf r (tableOf w)) (read .ensures) (c .before .before .before .before .before .enum-told .given .1) in
+    let e = via (λ (r : Onward). onwardOf r (tableOf w)) (read .ensures) (c .before .before .before .before .before .enum-told .given .1) in
     let old = a .text .now in
-    let x = chosen (sectionsOf (a .form) (tableOf w) (a .bound)) (a .index) in
+    let x = chosen (sectionsOf (a .bound) (a .form) (tableOf w)) (a .index) in
     let l = c .before .before .before .before .before .before .before .before .before .before .before .before .if1 .left in
     let q = part-room old (a .at) l x ∙ sym (one-got (a .bound) (a .form) (a .table .now) (a .index) (length (a .text .now)) (a .at) early e) in
     let done = c .before .before .put .ensures in (

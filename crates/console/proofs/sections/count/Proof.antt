@@ -4,12 +4,12 @@ use Prim.Native.Nat.{ℕ, _≤_}
 use native.Mathlib.Omega.{arith}
 use borrow.Author.Needs.{needs}
 use lib.ListN.{length}
-use Rattle.rules.specs.Answers.{answer, refusal}
+use Rattle.basics.specs.Answers.{answer, refusal}
 use Rattle.rules.specs.Sections.{sectionsOf}
 use Rattle.rules.specs.Refusals.{countSections}
 use Rattle.words.specs.Words.{tableOf}
-use Rattle.table.specs.Answers.{stepOf}
-use Rattle.table.specs.declared.Step.{Step}
+use Rattle.table.specs.Answers.{onwardOf}
+use Rattle.table.specs.declared.Onward.{Onward}
 use Rattle.numbers.proofs.AnswerLaws.{via}
 use Rattle.table.proofs.AnswerLaws.{read-held}
 use Rattle.laws.proofs.RefusalLaws.{table-bad, table-got}
@@ -59,7 +59,7 @@ returns-2 c =
     let w = read .last .1 .0 in
     let early = sym (c .before .before .before .before .before .before .before .early .ensures) ∙ c .before .before .before .before .before .before .if1 .left in
     sym (early-passes (a .bound) (a .form) (a .table .now) _ early
-    ∙ table-bad (a .table .now) _ (via (λ (r : Step). stepOf r (tableOf w)) (read .ensures) (c .before .why .given .1)))
+    ∙ table-bad (a .table .now) _ (via (λ (r : Onward). onwardOf r (tableOf w)) (read .ensures) (c .before .why .given .1)))
 
 returns-3 : tie.Need-returns-3
 unfolding countSections
@@ -70,7 +70,7 @@ returns-3 c =
     let early = sym (c .before .before .before .before .before .before .before .before .early .ensures) ∙ c .before .before .before .before .before .before .before .if1 .left in
     ap answer (c .section-count .ensures)
     ∙ sym (early-passes (a .bound) (a .form) (a .table .now) _ early
-    ∙ table-got (a .table .now) _ (via (λ (r : Step). stepOf r (tableOf w)) (read .ensures) (c .before .before .enum-told .given .1)))
+    ∙ table-got (a .table .now) _ (via (λ (r : Onward). onwardOf r (tableOf w)) (read .ensures) (c .before .before .enum-told .given .1)))
 
 pub count-spec : {M : Type 1} → statement M
 count-spec =

@@ -1,6 +1,6 @@
 use mathlib.Core.Path.{ap, _∙_}
 use borrow.Author.Needs.{needs}
-use Rattle.rules.specs.Answers.{numberOf}
+use Rattle.basics.specs.Answers.{numberOf}
 use Rattle.console.proofs.sections.ildorzhen_sections_number.Statement.{statement}
 use Rattle.console.proofs.sections.ildorzhen_sections_number.Tie as tie
 

@@ -1,6 +1,6 @@
 use mathlib.Core.Path.{ap, _∙_}
 use borrow.Author.Needs.{needs}
-use Rattle.rules.specs.Answers.{placeOf}
+use Rattle.basics.specs.Answers.{placeOf}
 use Rattle.console.proofs.sections.ildorzhen_sections_place.Statement.{statement}
 use Rattle.console.proofs.sections.ildorzhen_sections_place.Tie as tie
 

@@ -13,10 +13,10 @@ use Rattle.plan.proofs.check.check.Statement.{statement}
 use Rattle.plan.proofs.check.check.Tie as tie
 
 abbrev Inv-loop : tie.InvT-loop
-Inv-loop words form bound ops cells text stack₀ run₀ at₀ lines₀ stack run at lines = Going form (tableOf words) bound text stack run at lines
+Inv-loop words bound form ops cells text stack₀ run₀ at₀ lines₀ stack run at lines = Going bound form (tableOf words) text stack run at lines
 
 abbrev μ-loop : tie.MeasureT-loop
-μ-loop words form bound ops cells text stack₀ run₀ at₀ lines₀ stack run at lines = length text - at
+μ-loop words bound form ops cells text stack₀ run₀ at₀ lines₀ stack run at lines = length text - at
 
 start-task-requires : tie.Need-start-task-requires Inv-loop μ-loop
 start-task-requires c κs = search needs

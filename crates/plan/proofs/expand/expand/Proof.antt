@@ -13,16 +13,16 @@ use Rattle.plan.proofs.expand.expand.Statement.{statement}
 use Rattle.plan.proofs.expand.expand.Tie as tie
 
 abbrev Inv-loop : tie.InvT-loop
-Inv-loop words form bound cells text out₀ at₀ end₀ out at end =
-    Expanding form (tableOf words) bound text (sets out₀ 0 (bytesOf form (tableOf words) (linesOf text))) at end out
+Inv-loop words bound form cells text out₀ at₀ end₀ out at end =
+    Expanding bound form (tableOf words) text (sets out₀ 0 (bytesOf form (tableOf words) (linesOf text))) at end out
 
 abbrev μ-loop : tie.MeasureT-loop
-μ-loop words form bound cells text out₀ at₀ end₀ out at end = length text - at
+μ-loop words bound form cells text out₀ at₀ end₀ out at end = length text - at
 
 loop-holds : tie.Need-loop-holds Inv-loop μ-loop
 loop-holds c =
     let a = c .before .before .before .before in
-    expanding-begins (a .args .form) (tableOf (a .args .words .now)) (a .args .bound) (a .args .text .now) (a .args .out .now) (a .pre .1 .0) (a .pre .1 .1)
+    expanding-begins (a .args .bound) (a .args .form) (tableOf (a .args .words .now)) (a .args .text .now) (a .args .out .now) (a .pre .1 .0) (a .pre .1 .1)
 
 line-at-requires : tie.Need-line-at-requires Inv-loop μ-loop
 line-at-requires c κs = search needs

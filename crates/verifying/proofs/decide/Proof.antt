@@ -2,11 +2,11 @@ use Prim.Native.Nat.{ℕ, _-_, min}
 use mathlib.Core.Path.{_≡_, ap, _∙_}
 use lib.ListN.{length}
 use Rattle.rules.specs.Refusals.{checkPlan}
-use Rattle.checking.specs.Input.{sizeOf, checkInput}
-use Rattle.checking.proofs.PartLaws.{table-part, plan-part}
+use Rattle.verifying.specs.Input.{sizeOf, checkInput}
+use Rattle.verifying.proofs.PartLaws.{table-part, plan-part}
 use borrow.Author.Needs.{needs}
-use Rattle.checking.proofs.decide.Statement.{statement}
-use Rattle.checking.proofs.decide.Tie as tie
+use Rattle.verifying.proofs.decide.Statement.{statement}
+use Rattle.verifying.proofs.decide.Tie as tie
 
 byte-requires : tie.Need-byte-requires
 byte-requires c κs = search needs

@@ -3,8 +3,8 @@ use Prim.Native.Nat.{ℕ}
 use mathlib.Core.Bool.{Bool, cond}
 use mathlib.Core.List.{List}
 use lib.ListN.{length}
-use Rattle.rules.specs.declared.Reply.{Reply}
-use Rattle.rules.specs.declared.Reply.the-variants.{Value, Refused}
+use Rattle.basics.specs.declared.Reply.{Reply}
+use Rattle.basics.specs.declared.Reply.the-variants.{Value, Refused}
 
 -- A result, or a refusal's number and place.
 pub data Answer (A : Type 0) : Type 0 where

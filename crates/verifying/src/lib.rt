@@ -5,7 +5,7 @@ ghost use lib.ListN.{length};
 ghost use Rattle.rules.specs.Checks.{verdictOf};
 ghost use Rattle.text.specs.Appends.{Appends};
 ghost use Rattle.report.specs.Reports.{lineOf};
-ghost use Rattle.checking.specs.Input.{checkInput};
+ghost use Rattle.verifying.specs.Input.{checkInput};
 use rules::Verdict;
 
 pub fn judge(input: &[u8]) {

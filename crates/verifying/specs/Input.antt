@@ -2,7 +2,7 @@
 use Prim.Native.Nat.{ℕ, _+_, _*_}
 use mathlib.Core.List.{List}
 use lib.ListN.{take, drop, getD}
-use Rattle.rules.specs.Answers.{Answer}
+use Rattle.basics.specs.Answers.{Answer}
 use Rattle.rules.specs.Checks.{Tally}
 use Rattle.rules.specs.Refusals.{checkPlan}
 

@@ -3,8 +3,8 @@ use Rattle.rules.specs.Checks.{verdictOf}
 use Rattle.text.proofs.AppendLaws.{appends-is}
 use Rattle.report.specs.Reports.{lineOf}
 use borrow.Author.Needs.{needs}
-use Rattle.checking.proofs.put_verdict.Statement.{statement}
-use Rattle.checking.proofs.put_verdict.Tie as tie
+use Rattle.verifying.proofs.put_verdict.Statement.{statement}
+use Rattle.verifying.proofs.put_verdict.Tie as tie
 
 decide-requires : tie.Need-decide-requires
 decide-requires c κs = search needs
