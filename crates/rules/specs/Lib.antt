@@ -6,6 +6,7 @@ pub mod Tables
 pub mod Facts
 pub mod Progression
 pub mod Operators
+pub mod Problems
 pub mod Sections
 pub mod Plans
 pub mod Checks

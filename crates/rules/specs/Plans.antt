@@ -6,7 +6,7 @@ use lib.Dec.{eqb, leb}
 use Rattle.rules.specs.Progression.{Step, act, mth}
 use Rattle.rules.specs.Operators.{Operator}
 use Rattle.basics.specs.Texts.{bytes, digits, line}
-use Rattle.rules.specs.Sections.{nameOf}
+use Rattle.rules.specs.Problems.{nameOf}
 
 -- A line: a comment, an operator, or one of another shape.
 pub data Line : Type 0 where
