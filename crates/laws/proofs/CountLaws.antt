@@ -12,7 +12,9 @@ use Rattle.basics.specs.Lists.{rows, upto, sumTo}
 use Rattle.rules.specs.Tables.{Table, actionCount, methodCount, factCount, method}
 use Rattle.rules.specs.Progression.{Step, act, mth, leading, prefix, remain}
 use Rattle.rules.specs.Operators.{Operator, joined, highest, positions, risingFrom1, operatorsOf}
-use Rattle.rules.specs.Sections.{variableCount, variableText, sectionsOf}
+use Rattle.rules.specs.Problems.{variableCount, problemOf}
+use Rattle.rules.specs.Sections.{sectionsOf}
+use Rattle.version3.specs.Spelling.{spell}
 use Rattle.laws.specs.Valid.{Valid}
 use Rattle.laws.proofs.ListLaws.{rows-length, upto-length, sum-same, sum-even, sum-most}
 
@@ -91,7 +93,7 @@ pub operators-few : (b f : ℕ) (t : Table) → Valid t → b ≤ 64 → length 
 operators-few b f t v h = rw (operators-length b f t) (few-operators b f t (methodCount t) v h (omega arith))
 
 -- One section, one for each variable, one, one for each operator, and one.
-pub sections-length : (b f : ℕ) (t : Table) → length (sectionsOf b f t) ≡ variableCount t b + length (operatorsOf b f t) + 3
-unfolding sectionsOf
+pub sections-length : (b f : ℕ) (t : Table) → length (sectionsOf b f t) ≡ variableCount b t + length (operatorsOf b f t) + 3
+unfolding sectionsOf spell problemOf
 sections-length b f t =
     simp (length-append, length-map, rows-length) (omega arith)

@@ -1,6 +1,7 @@
 -- Laws of lists made from a number.
 use mathlib.Core.Path.{_≡_, refl, ap, ap₂, sym, _∙_}
-use mathlib.Core.List.{List, [], _∷_, _++_, append-nil, append-assoc}
+use mathlib.Core.List.{List, [], _∷_, _++_, map, append-nil, append-assoc, map-append}
+use mathlib.Core.Bool.{Bool, true, false, cond}
 use mathlib.Core.Logic.{⊎-elim}
 use Prim.Native.Nat.{ℕ, zero, suc, _+_, _*_, _≤_, _<_}
 use native.Mathlib.Nat.{eq-or-lt-of-le, add-zero, add-suc, mul-suc}
@@ -31,6 +32,20 @@ unfolding rows
 rows-same f g zero h = refl
 rows-same {A} f g (suc n) h =
     ap₂ (λ (xs : List A) (x : A). xs ++ (x ∷ [])) (rows-same f g n (λ k l. h k (omega arith))) (h n (omega arith))
+
+-- A map of rows, of a map, of one of two.
+pub map-rows : {A B : Type 0} (g : A → B) (f : ℕ → A) (n : ℕ) → map g (rows f n) ≡ rows (λ k. g (f k)) n
+unfolding rows
+map-rows g f zero = refl
+map-rows {B = B} g f (suc n) = map-append g (rows f n) (f n ∷ []) ∙ ap (λ (xs : List B). xs ++ (g (f n) ∷ [])) (map-rows g f n)
+
+pub map-map : {A B C : Type 0} (g : B → C) (f : A → B) (xs : List A) → map g (map f xs) ≡ map (λ x. g (f x)) xs
+map-map g f [] = refl
+map-map g f (x ∷ xs) = ap (λ l. g (f x) ∷ l) (map-map g f xs)
+
+pub map-cond : {A B : Type 0} (g : A → B) (c : Bool) (xs ys : List A) → map g (cond c xs ys) ≡ cond c (map g xs) (map g ys)
+map-cond g true xs ys = refl
+map-cond g false xs ys = refl
 
 pub upto-length : {A : Type 0} (f : ℕ → List A) (n : ℕ) → length (upto f n) ≡ sumTo (λ k. length (f k)) n
 unfolding upto sumTo

@@ -10,9 +10,11 @@ use Rattle.rules.specs.Tables.{Table, actionCount, methodCount}
 use Rattle.rules.specs.Progression.{Step, act, mth}
 use Rattle.rules.specs.Operators.{Operator, positions, risingFrom1, operatorsOf}
 use Rattle.basics.specs.Texts.{bytes}
-use Rattle.rules.specs.Sections.{variableCount, preamble, variableText, middle, operatorText, sectionsOf, problemText}
-use Rattle.laws.specs.Steps.{stepAt, stepText, frontText}
-use Rattle.laws.proofs.ListLaws.{rows-length, rows-at, upto-length, upto-split, upto-at, sum-same}
+use Rattle.rules.specs.Problems.{variableCount, variableOf, operOf, problemOf}
+use Rattle.rules.specs.Sections.{sectionsOf, problemText}
+use Rattle.version3.specs.Spelling.{preamble, spellVariable, middle, spellOper, spell}
+use Rattle.laws.specs.Steps.{stepAt, variableText, operatorText, stepText, frontText}
+use Rattle.laws.proofs.ListLaws.{rows-length, rows-at, map-rows, map-map, upto-length, upto-split, upto-at, sum-same}
 use Rattle.laws.proofs.TextLaws.{upto-same, concat-append, concat-rows}
 use Rattle.laws.proofs.StepNumbers.{step-action, step-method}
 
@@ -24,11 +26,6 @@ concat-upto {B = B} g f (suc n) =
     ap concat (map-append g (upto f n) (f n))
     ∙ concat-append (map g (upto f n)) (map g (f n))
     ∙ ap (λ (xs : List B). xs ++ concat (map g (f n))) (concat-upto g f n)
-
-map-rows : {A B : Type 0} (g : A → B) (f : ℕ → A) (n : ℕ) → map g (rows f n) ≡ rows (λ k. g (f k)) n
-unfolding rows
-map-rows g f zero = refl
-map-rows {B = B} g f (suc n) = map-append g (rows f n) (f n ∷ []) ∙ ap (λ (xs : List B). xs ++ (g (f n) ∷ [])) (map-rows g f n)
 
 map-at : {A B : Type 0} (g : A → B) (xs : List A) (k : ℕ) (d : A) (e : B) → k < length xs → getD (map g xs) k e ≡ g (getD xs k d)
 map-at g [] k d e l = absurd (omega arith)
@@ -77,44 +74,52 @@ module _ (b f : ℕ) (t : Table) where
   operatorSections = map (operatorText f t) (operatorsOf b f t)
 
   abbrev front : List (List ℕ)
-  front = preamble t b ∷ rows (variableText t b) (variableCount t b)
+  front = preamble (variableCount b t) ∷ rows (variableText b t) (variableCount b t)
 
-  sections-are : sectionsOf b f t ≡ front ++ (middle b f t ∷ (operatorSections ++ (bytes "0\n" ∷ [])))
-  unfolding sectionsOf
-  sections-are = append-assoc front (middle b f t ∷ operatorSections) (bytes "0\n" ∷ [])
+  -- The spelling of the problem, as these.
+  sections-group : sectionsOf b f t ≡ front ++ (middle (problemOf b f t) ∷ operatorSections) ++ (bytes "0\n" ∷ [])
+  unfolding sectionsOf spell problemOf
+  sections-group =
+      let head : preamble (length (problemOf b f t .variables)) ≡ preamble (variableCount b t) = ap preamble (rows-length (variableOf b t) (variableCount b t)) in
+      let variables : map spellVariable (problemOf b f t .variables) ≡ rows (variableText b t) (variableCount b t) = map-rows spellVariable (variableOf b t) (variableCount b t) in
+      let operators : map spellOper (problemOf b f t .operators) ≡ operatorSections = map-map spellOper (operOf f t) (operatorsOf b f t) in
+      λ i. (head i ∷ variables i) ++ (middle (problemOf b f t) ∷ operators i) ++ (bytes "0\n" ∷ [])
 
-  front-length : length front ≡ suc (variableCount t b)
-  front-length = ap suc (rows-length (variableText t b) (variableCount t b))
+  sections-are : sectionsOf b f t ≡ front ++ (middle (problemOf b f t) ∷ (operatorSections ++ (bytes "0\n" ∷ [])))
+  sections-are = sections-group ∙ append-assoc front (middle (problemOf b f t) ∷ operatorSections) (bytes "0\n" ∷ [])
 
-  pub section-first : getD (sectionsOf b f t) 0 [] ≡ preamble t b
+  front-length : length front ≡ suc (variableCount b t)
+  front-length = ap suc (rows-length (variableText b t) (variableCount b t))
+
+  pub section-first : getD (sectionsOf b f t) 0 [] ≡ preamble (variableCount b t)
   section-first = ap (λ (xs : List (List ℕ)). getD xs 0 []) sections-are
 
-  pub section-variable : (v : ℕ) → v < variableCount t b → getD (sectionsOf b f t) (suc v) [] ≡ variableText t b v
+  pub section-variable : (v : ℕ) → v < variableCount b t → getD (sectionsOf b f t) (suc v) [] ≡ variableText b t v
   section-variable v l =
       ap (λ (xs : List (List ℕ)). getD xs (suc v) []) sections-are
-      ∙ List·getD-append front (middle b f t ∷ (operatorSections ++ (bytes "0\n" ∷ []))) [] (suc v) (omega (arith, front-length))
-      ∙ rows-at (variableText t b) [] (variableCount t b) v l
+      ∙ List·getD-append front (middle (problemOf b f t) ∷ (operatorSections ++ (bytes "0\n" ∷ []))) [] (suc v) (omega (arith, front-length))
+      ∙ rows-at (variableText b t) [] (variableCount b t) v l
 
-  pub section-middle : getD (sectionsOf b f t) (suc (variableCount t b)) [] ≡ middle b f t
+  pub section-middle : getD (sectionsOf b f t) (suc (variableCount b t)) [] ≡ middle (problemOf b f t)
   section-middle =
-      ap (λ (xs : List (List ℕ)). getD xs (suc (variableCount t b)) []) sections-are
-      ∙ getD-at front (middle b f t) (operatorSections ++ (bytes "0\n" ∷ [])) [] (suc (variableCount t b)) front-length
+      ap (λ (xs : List (List ℕ)). getD xs (suc (variableCount b t)) []) sections-are
+      ∙ getD-at front (middle (problemOf b f t)) (operatorSections ++ (bytes "0\n" ∷ [])) [] (suc (variableCount b t)) front-length
 
   -- What stands k places behind the middle.
-  behind : (k : ℕ) → getD (sectionsOf b f t) (suc (suc (variableCount t b)) + k) [] ≡ getD (operatorSections ++ (bytes "0\n" ∷ [])) k []
+  behind : (k : ℕ) → getD (sectionsOf b f t) (suc (suc (variableCount b t)) + k) [] ≡ getD (operatorSections ++ (bytes "0\n" ∷ [])) k []
   behind k =
-      let e : suc (suc (variableCount t b)) + k ≡ length front + suc k = omega (arith, front-length) in
+      let e : suc (suc (variableCount b t)) + k ≡ length front + suc k = omega (arith, front-length) in
       ap₂ (λ (xs : List (List ℕ)) (n : ℕ). getD xs n []) sections-are e
-      ∙ getD-append-add front (middle b f t ∷ (operatorSections ++ (bytes "0\n" ∷ []))) (suc k) []
+      ∙ getD-append-add front (middle (problemOf b f t) ∷ (operatorSections ++ (bytes "0\n" ∷ []))) (suc k) []
 
   pub section-operator : (d : Operator) (k : ℕ) → k < length (operatorsOf b f t)
-      → getD (sectionsOf b f t) (suc (suc (variableCount t b)) + k) [] ≡ operatorText f t (getD (operatorsOf b f t) k d)
+      → getD (sectionsOf b f t) (suc (suc (variableCount b t)) + k) [] ≡ operatorText f t (getD (operatorsOf b f t) k d)
   section-operator d k l =
       behind k
       ∙ List·getD-append operatorSections (bytes "0\n" ∷ []) [] k (omega (arith, length-map (operatorsOf b f t) (operatorText f t)))
       ∙ map-at (operatorText f t) (operatorsOf b f t) k d [] l
 
-  pub section-last : getD (sectionsOf b f t) (suc (suc (variableCount t b)) + length (operatorsOf b f t)) [] ≡ bytes "0\n"
+  pub section-last : getD (sectionsOf b f t) (suc (suc (variableCount b t)) + length (operatorsOf b f t)) [] ≡ bytes "0\n"
   section-last =
       behind (length (operatorsOf b f t))
       ∙ getD-at operatorSections (bytes "0\n") [] [] (length (operatorsOf b f t)) (length-map (operatorsOf b f t) (operatorText f t))
@@ -132,10 +137,11 @@ module _ (b f : ℕ) (t : Table) where
       ∙ concat-rows (λ p. operatorText f t (record { what = stepAt t i; at = suc p })) (count i))
 
   pub whole-text : problemText b f t ≡ frontText b f t ++ upto (stepText b f t) (actionCount t + methodCount t) ++ bytes "0\n"
-  unfolding problemText sectionsOf concat frontText
+  unfolding problemText concat frontText
   whole-text =
-      concat-append (front ++ (middle b f t ∷ operatorSections)) (bytes "0\n" ∷ [])
+      ap concat sections-group
+      ∙ concat-append (front ++ (middle (problemOf b f t) ∷ operatorSections)) (bytes "0\n" ∷ [])
       ∙ ap (λ (xs : List ℕ). xs ++ bytes "0\n")
-      (concat-append front (middle b f t ∷ operatorSections)
-      ∙ ap₂ (λ (xs ys : List ℕ). (preamble t b ++ xs) ++ (middle b f t ++ ys)) (concat-rows (variableText t b) (variableCount t b)) operators-text
-      ∙ sym (append-assoc (preamble t b ++ upto (variableText t b) (variableCount t b)) (middle b f t) (upto (stepText b f t) (actionCount t + methodCount t))))
+      (concat-append front (middle (problemOf b f t) ∷ operatorSections)
+      ∙ ap₂ (λ (xs ys : List ℕ). (preamble (variableCount b t) ++ xs) ++ (middle (problemOf b f t) ++ ys)) (concat-rows (variableText b t) (variableCount b t)) operators-text
+      ∙ sym (append-assoc (preamble (variableCount b t) ++ upto (variableText b t) (variableCount b t)) (middle (problemOf b f t)) (upto (stepText b f t) (actionCount t + methodCount t))))
