@@ -11,4 +11,8 @@ pub mod Demand3
 pub mod Expansion
 pub mod Examples
 pub mod Listing
+pub mod Places
+pub mod LineLaws
+pub mod ProblemOrder
+pub mod LineCounts
 pub mod SectionSizes

@@ -2,3 +2,4 @@
 -- is about tables, tasks or methods.
 pub mod Problems
 pub mod Spelling
+pub mod Order
