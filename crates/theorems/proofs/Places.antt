@@ -7,16 +7,16 @@ use lib.ListN.{length, getD}
 use lib.Seq.{getD-drop}
 use lib.Dec.{T}
 use Rattle.rules.specs.Limits.{mostSubtasks, mostCost}
-use Rattle.rules.specs.Tables.{Table, factCount, actionCount, taskCount, method}
+use Rattle.rules.specs.Tables.{Table, factCount, actionCount, taskCount, methodCount, method}
 use Rattle.rules.specs.Progression.{Step, act, mth, prefix, totalCost}
 use Rattle.rules.specs.Operators.{Operator, company, joined, taskOf, leaves, emitted}
 use Rattle.laws.specs.Valid.{Valid}
 use Rattle.laws.specs.Joins.{Within}
+use Rattle.laws.specs.Steps.{stepAt}
 use Rattle.laws.proofs.TableLaws.{head-low}
 use Rattle.laws.proofs.JoinSizes.{joined-low}
 use Rattle.laws.proofs.StepNumbers.{step-action, step-method}
-use Rattle.laws.proofs.StepSizes.{stay-length}
-use Rattle.laws.proofs.CostLaws.{prefix-cheap}
+use Rattle.laws.proofs.StepSizes.{stay-length, leaves-few, cost-low}
 use Rattle.theorems.proofs.Emission.{action-emitted, method-emitted}
 use Rattle.theorems.proofs.Heights.{Known}
 
@@ -58,14 +58,16 @@ module _ (f : ℕ) (t : Table) (v : Valid t) where
       subst (λ (x : ℕ). x ≤ taskCount t) (sym (getD-drop n subs j d))
       (at-most (taskCount t) subs (λ i q. omega (arith, v .method k l .subs i q)) d h (n + j))
 
+  -- The laws of steps by one number.
+  by-known : (P : Step → Type 0) → ((i : ℕ) → i < actionCount t + methodCount t → P (stepAt t i)) → (x : Step) → Known t x → P x
+  by-known P h (act k) l = subst P (step-action t k l) (h k (omega arith))
+  by-known P h (mth k) l = subst P (step-method t k) (h (actionCount t + k) (omega arith))
+
   pub leaves-most : (x : Step) → Known t x → length (leaves f t x) ≤ mostSubtasks
-  leaves-most (act k) l = omega arith
-  leaves-most (mth k) l = omega (arith, stay-length f t k, v .method k l .count)
+  leaves-most = by-known (λ x. length (leaves f t x) ≤ mostSubtasks) (leaves-few f t v)
 
   pub cost-most : (x : Step) → Known t x → totalCost t (x ∷ map act (company f t x)) ≤ mostSubtasks * mostCost
-  cost-most (act k) l = omega (arith, v .action k l .cost)
-  cost-most (mth k) l = omega (arith, prefix-cheap f t k v l)
+  cost-most = by-known (λ x. totalCost t (x ∷ map act (company f t x)) ≤ mostSubtasks * mostCost) (cost-low f t v)
 
   pub sets-low : (x : Step) → Known t x → Within (factCount t) (joined f t x)
-  sets-low (act k) l = subst (λ (x : Step). Within (factCount t) (joined f t x)) (step-action t k l) (joined-low t v f k)
-  sets-low (mth k) l = subst (λ (x : Step). Within (factCount t) (joined f t x)) (step-method t k) (joined-low t v f (actionCount t + k))
+  sets-low = by-known (λ x. Within (factCount t) (joined f t x)) (λ i l. joined-low t v f i)

@@ -1,28 +1,25 @@
 -- The emitted problem is in order: every number is one of a variable or of a value that is there, lines rise by variable, and no
 -- variable stands twice.
 use Prim.Native.Nat.{ℕ, suc, _+_, _-_, _≤_, _<_}
-use mathlib.Core.Path.{_≡_, refl, sym, ap, _∙_}
+use mathlib.Core.Path.{_≡_, refl, sym, _∙_}
 use mathlib.Core.Bool.{Bool, true, false, cond}
-use mathlib.Core.List.{List, [], _∷_, _++_}
+use mathlib.Core.List.{List, [], _∷_}
 use mathlib.Core.Option.{none, some}
 use native.Mathlib.Omega.{arith}
-use borrow.Author.Tests.{eq-eqb, ne-eqb, lt-ltb, le-ltb}
-use lib.ListN.{length, length-append}
+use lib.ListN.{length}
 use lib.Dec.{T, eqb, ltb}
-use Rattle.basics.specs.Lists.{rows}
-use Rattle.basics.specs.Texts.{bytes, digits}
 use Rattle.rules.specs.Tables.{Table, factCount, taskCount, startTask, startFacts, goalFacts}
 use Rattle.rules.specs.Facts.{Join, has, membersOf}
 use Rattle.rules.specs.Operators.{Operator, joined, taskOf, leaves, emitted, operatorsOf}
-use Rattle.rules.specs.Problems.{variableCount, noTask, factNames, heightNames, taskNames, valueNames, variableOf, startValue, set, holding, goalOf, topNext, bottomNext, factEffect, change, push, prevails, effects, operAt, operOf, problemOf}
-use Rattle.version3.specs.Problems.{Variable, Setting, noVariable, valuesOf, fixing}
+use Rattle.rules.specs.Problems.{variableCount, noTask, factNames, heightNames, taskNames, valueNames, startValue, set, holding, goalOf, topNext, bottomNext, factEffect, change, push, prevails, effects, operAt, operOf, problemOf}
+use Rattle.version3.specs.Problems.{Variable, Setting, valuesOf, fixing}
 use Rattle.version3.specs.Order.{Each, Rising, GoodSetting, Below, GoodEffect, GoodSettings, GoodOper, InOrder, RisingOper, RisingLines}
 use Rattle.version3.proofs.OrderLaws.{each-append, each-map, each-of, rising-once, climb-append, climb-rising}
 use Rattle.laws.specs.Valid.{Valid}
 use Rattle.laws.proofs.ListLaws.{rows-length, rows-at}
-use Rattle.theorems.specs.Counts.{ValueCounts}
 use Rattle.theorems.proofs.Listing.{listed}
 use Rattle.theorems.proofs.Places.{There, there, task-low, leaf-low}
+use Rattle.theorems.proofs.ValueCounts.{names-many, heights-many, variablesOf, values-are, values-counted}
 use Rattle.theorems.proofs.LineLaws.{each-member, climb-members, each-prevail, each-effect, prevail-rises, effects-rise, lines-once}
 
 -- ---- lines rise by variable
@@ -53,18 +50,7 @@ problem-rises b f t =
           (each-of (λ o. RisingOper (operOf f t o)) (operatorsOf b f t) (λ o m. operator-rises b f t o (listed b f t o .0 m)));
     }
 
--- ---- how many values a variable has
-
-pub names-many : (t : Table) → length (taskNames t) ≡ taskCount t + 1
-names-many t =
-    length-append (rows (λ k. bytes "t" ++ digits k) (taskCount t)) (bytes "none" ∷ [])
-    ∙ omega (arith, rows-length (λ k. bytes "t" ++ digits k) (taskCount t))
-
-pub heights-many : (b : ℕ) → length (heightNames b) ≡ b + 1
-heights-many b = rows-length (λ h. bytes "top" ++ digits h) (suc b) ∙ omega arith
-
-abbrev pub variablesOf : ℕ → Table → List Variable
-variablesOf b t = rows (variableOf b t) (variableCount b t)
+-- ---- every number is one of a variable or of a value that is there
 
 module _ (b : ℕ) (t : Table) where
   abbrev F : ℕ
@@ -73,27 +59,11 @@ module _ (b : ℕ) (t : Table) where
   abbrev vs : List Variable
   vs = variablesOf b t
 
-  pub values-are : (k : ℕ) → k < variableCount b t → valuesOf vs k ≡ length (valueNames b t k)
-  unfolding variableOf
-  values-are k l = ap (λ (x : Variable). length (x .values)) (rows-at (variableOf b t) noVariable (variableCount b t) k l)
-
-  values-counted : ValueCounts b t vs
-  values-counted =
-      record {
-        variables = rows-length (variableOf b t) (variableCount b t);
-        fact = λ k l. values-are k (omega arith) ∙ rw (lt-ltb k F l);
-        top = values-are F (omega arith) ∙ rw (le-ltb F F (omega arith), eq-eqb F F refl) (heights-many b);
-        position = λ i l h.
-            values-are (F + i) (omega arith) ∙ rw (le-ltb (F + i) F (omega arith), ne-eqb (F + i) F (λ q. omega arith)) (names-many t);
-      }
-
-  -- ---- every number is one of a variable or of a value that is there
-
   good-fact : (k : ℕ) → k < F → GoodSetting vs (set k 0)
-  good-fact k l = record { variable = omega (arith, values-counted .variables); value = omega (arith, values-counted .fact k l) }
+  good-fact k l = record { variable = omega (arith, values-counted b t .variables); value = omega (arith, values-counted b t .fact k l) }
 
   good-top : (i : ℕ) → i ≤ b → GoodSetting vs (set F i)
-  good-top i l = record { variable = omega (arith, values-counted .variables); value = omega (arith, values-counted .top) }
+  good-top i l = record { variable = omega (arith, values-counted b t .variables); value = omega (arith, values-counted b t .top) }
 
   pub good-goal : GoodSettings vs (goalOf t)
   good-goal =
@@ -104,98 +74,101 @@ module _ (b : ℕ) (t : Table) where
         once = rising-once (fixing (goalOf t)) (goal-rises t);
       }
 
-  module _ (v : Valid t) where
-    start-low : 1 ≤ b → (k : ℕ) → startValue t k < length (valueNames b t k)
-    start-low low k = go (ltb k F) (eqb k F)
-      where
-        fact : (c : Bool) → cond c 0 1 < 2
-        fact true = omega arith
-        fact false = omega arith
+  start-low : Valid t → 1 ≤ b → (k : ℕ) → startValue t k < length (valueNames b t k)
+  start-low v low k = go (ltb k F) (eqb k F)
+    where
+      fact : (c : Bool) → cond c 0 1 < 2
+      fact true = omega arith
+      fact false = omega arith
 
-        task : (c : Bool) → cond c (startTask t) (noTask t) < length (taskNames t)
-        task true = omega (arith, names-many t, v .head .start-high, v .head .abstracts)
-        task false = omega (arith, names-many t)
+      task : (c : Bool) → cond c (startTask t) (noTask t) < length (taskNames t)
+      task true = omega (arith, names-many t, v .head .start-high, v .head .abstracts)
+      task false = omega (arith, names-many t)
 
-        go : (c d : Bool) → cond c (cond (has (startFacts t) k) 0 1) (cond d 1 (cond (eqb k (F + 1)) (startTask t) (noTask t)))
-            < length (cond c (factNames k) (cond d (heightNames b) (taskNames t)))
-        go true d = fact (has (startFacts t) k)
-        go false true = omega (arith, heights-many b)
-        go false false = task (eqb k (F + 1))
+      go : (c d : Bool) → cond c (cond (has (startFacts t) k) 0 1) (cond d 1 (cond (eqb k (F + 1)) (startTask t) (noTask t)))
+          < length (cond c (factNames k) (cond d (heightNames b) (taskNames t)))
+      go true d = fact (has (startFacts t) k)
+      go false true = omega (arith, heights-many b)
+      go false false = task (eqb k (F + 1))
 
-    module _ (f : ℕ) (o : Operator) (m : T (emitted b f t o)) where
-      abbrev h : There b f t o
-      h = there b f t o m
+-- ---- an operator that is emitted
 
-      abbrev j : Join
-      j = joined f t (o .what)
+module _ (b f : ℕ) (t : Table) (v : Valid t) (o : Operator) (m : T (emitted b f t o)) where
+  abbrev top : ℕ
+  top = factCount t
 
-      abbrev i : ℕ
-      i = o .at
+  abbrev all : List Variable
+  all = variablesOf b t
 
-      abbrev task : ℕ
-      task = taskOf t (o .what)
+  abbrev h : There b f t o
+  h = there b f t o m
 
-      abbrev rest : List ℕ
-      rest = leaves f t (o .what)
+  abbrev j : Join
+  j = joined f t (o .what)
 
-      -- A position, and a task or none there.
-      placed : (p x : ℕ) → 1 ≤ p → p ≤ b → x ≤ taskCount t → GoodSetting vs (set (F + p) x)
-      placed p x l u q = record { variable = omega (arith, values-counted .variables); value = omega (arith, values-counted .position p l u) }
+  abbrev i : ℕ
+  i = o .at
 
-      good-prevail : Each (GoodSetting vs) (prevails F (noTask t) j task i rest)
-      good-prevail =
-          each-prevail F (noTask t) j task i rest (GoodSetting vs) (λ k l _. good-fact k l) (λ _. good-top i (h .high))
-          (λ _. placed i task (h .low) (h .high) (omega (arith, task-low f t v (o .what) (h .known))))
+  abbrev task : ℕ
+  task = taskOf t (o .what)
 
-      good-change : (w x y : ℕ) → GoodSetting vs (set w x) → GoodSetting vs (set w y) → GoodEffect vs (change w x y)
-      good-change w x y p q = record { variable = p .variable; before = p .value; after = q .value }
+  abbrev rest : List ℕ
+  rest = leaves f t (o .what)
 
-      good-altered : (k : ℕ) → k < F → GoodEffect vs (factEffect (j .needs) (j .dels) k)
-      good-altered k l =
-          record {
-            variable = omega (arith, values-counted .variables);
-            before = asked (has (j .needs) k) (values-counted .fact k l);
-            after = omega (arith, two (has (j .dels) k), values-counted .fact k l);
-          }
-        where
-          asked : (c : Bool) → valuesOf vs k ≡ 2 → Below (valuesOf vs k) (cond c (some 0) none)
-          asked true e = omega arith
-          asked false e = tt
+  -- A position, and a task or none there.
+  placed : (p x : ℕ) → 1 ≤ p → p ≤ b → x ≤ taskCount t → GoodSetting all (set (top + p) x)
+  placed p x l u q = record { variable = omega (arith, values-counted b t .variables); value = omega (arith, values-counted b t .position p l u) }
 
-          two : (c : Bool) → cond c 1 0 < 2
-          two true = omega arith
-          two false = omega arith
+  good-prevail : Each (GoodSetting all) (prevails top (noTask t) j task i rest)
+  good-prevail =
+      each-prevail top (noTask t) j task i rest (GoodSetting all) (λ k l _. good-fact b t k l) (λ _. good-top b t i (h .high))
+      (λ _. placed i task (h .low) (h .high) (omega (arith, task-low f t v (o .what) (h .known))))
 
-      good-push : (k : ℕ) → k < length rest - 1 → GoodEffect vs (push F i rest k)
-      good-push k l =
-          let e : F + (i + suc k) ≡ F + i + suc k = omega arith in
-          let q = placed (i + suc k) _ (omega arith) (omega (arith, h .room)) (leaf-low f t v (o .what) (h .known) 0 (omega arith) (length rest - 2 - k)) in
-          record { variable = omega (arith, q .variable); before = tt; after = rw e at (q .value) }
+  good-change : (w x y : ℕ) → GoodSetting all (set w x) → GoodSetting all (set w y) → GoodEffect all (change w x y)
+  good-change w x y p q = record { variable = p .variable; before = p .value; after = q .value }
 
-      good-effects : Each (GoodEffect vs) (effects F (noTask t) j task i rest)
-      good-effects =
-          each-effect F (noTask t) j task i rest (GoodEffect vs) (λ k l _. good-altered k l)
-          (λ _. good-change F i (topNext i rest) (good-top i (h .high)) (good-top (topNext i rest) (omega (arith, h .room))))
-          (λ _. good-change (F + i) task (bottomNext (noTask t) rest)
-          (placed i task (h .low) (h .high) (omega (arith, task-low f t v (o .what) (h .known))))
-          (placed i (bottomNext (noTask t) rest) (h .low) (h .high) (leaf-low f t v (o .what) (h .known) (noTask t) (omega arith) (length rest - 1))))
-          good-push
+  good-altered : (k : ℕ) → k < top → GoodEffect all (factEffect (j .needs) (j .dels) k)
+  good-altered k l =
+      record {
+        variable = omega (arith, values-counted b t .variables);
+        before = asked (has (j .needs) k) (values-counted b t .fact k l);
+        after = omega (arith, two (has (j .dels) k), values-counted b t .fact k l);
+      }
+    where
+      asked : (c : Bool) → valuesOf all k ≡ 2 → Below (valuesOf all k) (cond c (some 0) none)
+      asked true e = omega arith
+      asked false e = tt
 
-      pub good-operator : GoodOper vs (operOf f t o)
-      unfolding operOf operAt
-      good-operator =
-          record {
-            prevail = record {
-              each = good-prevail;
-              once = rising-once (fixing (prevails F (noTask t) j task i rest)) (prevail-rises F (noTask t) j task i rest (h .low));
-            };
-            effects = good-effects;
-            once = lines-once F (noTask t) j task i rest (h .low);
-          }
+      two : (c : Bool) → cond c 1 0 < 2
+      two true = omega arith
+      two false = omega arith
 
-pub problem-counted : (b f : ℕ) (t : Table) → ValueCounts b t (problemOf b f t .variables)
-unfolding problemOf
-problem-counted b f t = values-counted b t
+  good-push : (k : ℕ) → k < length rest - 1 → GoodEffect all (push top i rest k)
+  good-push k l =
+      let e : top + (i + suc k) ≡ top + i + suc k = omega arith in
+      let q = placed (i + suc k) _ (omega arith) (omega (arith, h .room)) (leaf-low f t v (o .what) (h .known) 0 (omega arith) (length rest - 2 - k)) in
+      record { variable = omega (arith, q .variable); before = tt; after = rw e at (q .value) }
+
+  good-effects : Each (GoodEffect all) (effects top (noTask t) j task i rest)
+  good-effects =
+      each-effect top (noTask t) j task i rest (GoodEffect all) (λ k l _. good-altered k l)
+      (λ _. good-change top i (topNext i rest) (good-top b t i (h .high)) (good-top b t (topNext i rest) (omega (arith, h .room))))
+      (λ _. good-change (top + i) task (bottomNext (noTask t) rest)
+      (placed i task (h .low) (h .high) (omega (arith, task-low f t v (o .what) (h .known))))
+      (placed i (bottomNext (noTask t) rest) (h .low) (h .high) (leaf-low f t v (o .what) (h .known) (noTask t) (omega arith) (length rest - 1))))
+      good-push
+
+  pub good-operator : GoodOper all (operOf f t o)
+  unfolding operOf operAt
+  good-operator =
+      record {
+        prevail = record {
+          each = good-prevail;
+          once = rising-once (fixing (prevails top (noTask t) j task i rest)) (prevail-rises top (noTask t) j task i rest (h .low));
+        };
+        effects = good-effects;
+        once = lines-once top (noTask t) j task i rest (h .low);
+      }
 
 pub problem-in-order : (b f : ℕ) (t : Table) → Valid t → 1 ≤ b → InOrder (problemOf b f t)
 unfolding problemOf
@@ -208,5 +181,5 @@ problem-in-order b f t v low =
           omega (arith, rows-at (startValue t) 0 n k q, values-are b t k q, start-low b t v low k);
       goal = good-goal b t;
       operators = each-map (GoodOper (variablesOf b t)) (operOf f t) (operatorsOf b f t)
-          (each-of (λ o. GoodOper (variablesOf b t) (operOf f t o)) (operatorsOf b f t) (λ o m. good-operator b t v f o (listed b f t o .0 m)));
+          (each-of (λ o. GoodOper (variablesOf b t) (operOf f t o)) (operatorsOf b f t) (λ o m. good-operator b f t v o (listed b f t o .0 m)));
     }

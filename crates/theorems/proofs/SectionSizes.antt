@@ -29,7 +29,8 @@ use Rattle.laws.proofs.CountLaws.{operators-few}
 use Rattle.theorems.proofs.Heights.{Known}
 use Rattle.theorems.proofs.Listing.{listed}
 use Rattle.theorems.proofs.Places.{there, cost-most}
-use Rattle.theorems.proofs.ProblemOrder.{variablesOf, names-many, heights-many, values-are, good-goal, good-operator}
+use Rattle.theorems.proofs.ValueCounts.{names-many, heights-many, variablesOf, values-are}
+use Rattle.theorems.proofs.ProblemOrder.{good-goal, good-operator}
 use Rattle.theorems.proofs.LineCounts.{lines-few}
 
 abbrev Short : List ℕ → Type 0
@@ -185,39 +186,39 @@ module _ (b : ℕ) (t : Table) (valid : Valid t) (low : b ≤ mostBound) where
             (omega arith) (each-as (GoodSetting (variablesOf b t)) (λ s. length (spellSetting s) ≤ 8) setting-short (goalOf t) (good-goal b t .each)),
       )
 
-  module _ (f : ℕ) where
-    middle-short : Short (middle (problemOf b f t))
-    unfolding middle problemOf
-    middle-short =
-        let n = length (map (operOf f t) (operatorsOf b f t)) in
-        rw (parts-7 (bytes "0\nbegin_state\n") (concat (map numberLine (rows (startValue t) (variableCount b t)))) (bytes "end_state\n") (bytes "begin_goal\n") (counted (map spellSetting (goalOf t))) (bytes "end_goal\n") (numberLine n))
-        (omega (
-          arith,
-          starts-short,
-          goal-short,
-          word-line (digits n),
-          digits-le 4 n (omega (arith, length-map (operatorsOf b f t) (operOf f t), operators-few b f t valid low)),
-        ))
+module _ (b f : ℕ) (t : Table) (valid : Valid t) (low : b ≤ mostBound) where
+  middle-short : Short (middle (problemOf b f t))
+  unfolding middle problemOf
+  middle-short =
+      let n = length (map (operOf f t) (operatorsOf b f t)) in
+      rw (parts-7 (bytes "0\nbegin_state\n") (concat (map numberLine (rows (startValue t) (variableCount b t)))) (bytes "end_state\n") (bytes "begin_goal\n") (counted (map spellSetting (goalOf t))) (bytes "end_goal\n") (numberLine n))
+      (omega (
+        arith,
+        starts-short b t valid low,
+        goal-short b t valid low,
+        word-line (digits n),
+        digits-le 4 n (omega (arith, length-map (operatorsOf b f t) (operOf f t), operators-few b f t valid low)),
+      ))
 
-    -- ---- operators
+  -- ---- operators
 
-    name-short : (x : Step) → Known t x → length (nameOf x) ≤ 4
-    name-short (act k) l = omega (arith, three k (omega (arith, valid .head .actions)))
-    name-short (mth k) l = omega (arith, three k (omega (arith, valid .head .methods)))
+  name-short : (x : Step) → Known t x → length (nameOf x) ≤ 4
+  name-short (act k) l = omega (arith, three k (omega (arith, valid .head .actions)))
+  name-short (mth k) l = omega (arith, three k (omega (arith, valid .head .methods)))
 
-    operator-short : (o : Operator) → T (emitted b f t o) → Short (spellOper (operOf f t o))
-    unfolding operOf operAt
-    operator-short o m =
-        let h = there b f t o m in
-        let good = good-operator b t valid f o m in
-        let few = lines-few b f t valid o m in
-        oper-short (operOf f t o)
-        (rw (length-append (nameOf (o .what)) (32 ∷ digits (o .at))) (omega (arith, name-short (o .what) (h .known), three (o .at) (omega (arith, h .high)))))
-        (counted-short spellSetting 8 (mostFacts + 2) (operOf f t o .prevail) (omega (arith, few .0, valid .head .facts)) (omega arith)
-        (each-as (GoodSetting (variablesOf b t)) (λ s. length (spellSetting s) ≤ 8) setting-short (operOf f t o .prevail) (good .prevail .each)))
-        (counted-short spellEffect 14 (mostFacts + 1 + mostSubtasks) (operOf f t o .effects) (omega (arith, few .1, valid .head .facts)) (omega arith)
-        (each-as (GoodEffect (variablesOf b t)) (λ e. length (spellEffect e) ≤ 14) effect-short (operOf f t o .effects) (good .effects)))
-        (omega (arith, cost-most f t valid (o .what) (h .known)))
+  operator-short : (o : Operator) → T (emitted b f t o) → Short (spellOper (operOf f t o))
+  unfolding operOf operAt
+  operator-short o m =
+      let h = there b f t o m in
+      let good = good-operator b f t valid o m in
+      let few = lines-few b f t valid o m in
+      oper-short (operOf f t o)
+      (rw (length-append (nameOf (o .what)) (32 ∷ digits (o .at))) (omega (arith, name-short (o .what) (h .known), three (o .at) (omega (arith, h .high)))))
+      (counted-short spellSetting 8 (mostFacts + 2) (operOf f t o .prevail) (omega (arith, few .0, valid .head .facts)) (omega arith)
+      (each-as (GoodSetting (variablesOf b t)) (λ s. length (spellSetting s) ≤ 8) (setting-short b t valid low) (operOf f t o .prevail) (good .prevail .each)))
+      (counted-short spellEffect 14 (mostFacts + 1 + mostSubtasks) (operOf f t o .effects) (omega (arith, few .1, valid .head .facts)) (omega arith)
+      (each-as (GoodEffect (variablesOf b t)) (λ e. length (spellEffect e) ≤ 14) (effect-short b t valid low) (operOf f t o .effects) (good .effects)))
+      (omega (arith, cost-most f t valid (o .what) (h .known)))
 
 -- ---- all sections
 
@@ -233,10 +234,10 @@ sections-short b f t valid low =
       each-map Short spellVariable (rows (variableOf b t) n)
           (each-rows (λ v. Short (spellVariable v)) (variableOf b t) n (variable-short b t valid low)),
     ) (
-      middle-short b t valid low f,
+      middle-short b f t valid low,
       each-map Short spellOper (map (operOf f t) (operatorsOf b f t))
           (each-map (λ o. Short (spellOper o)) (operOf f t) (operatorsOf b f t)
-          (each-of (λ o. Short (spellOper (operOf f t o))) (operatorsOf b f t) (λ o m. operator-short b t valid low f o (listed b f t o .0 m)))),
+          (each-of (λ o. Short (spellOper (operOf f t o))) (operatorsOf b f t) (λ o m. operator-short b f t valid low o (listed b f t o .0 m)))),
     ))
     (omega arith, tt)
 
