@@ -17,7 +17,7 @@ AFTER := $(LIB)/libc.so.6 $(LIB)/libc_nonshared.a $(LIB)/libgcc.a $(LIB)/crtendS
 OUT := target/c
 OBJ := $(OUT)/obj
 ARCHIVE := target/staticlib/libconsole.a
-HEADERS := include/ildorzhen.h $(wildcard c/*/*.h)
+HEADERS := include/ildorzhen.h $(wildcard c/*.h c/*/*.h)
 PLAIN := $(addprefix $(OBJ)/plain/,table.o operators.o least.o plan.o text.o)
 COMPARE := $(addprefix $(OBJ)/,compare.o compare/generate.o compare/plans.o)
 
@@ -25,7 +25,7 @@ COMPARE := $(addprefix $(OBJ)/,compare.o compare/generate.o compare/plans.o)
 
 # The console on the night of March: prints what it says, then compares that with c/march.out. Header and program are C++ too.
 march: $(OUT)/march
-	$(CXX) -Werror -fsyntax-only c/march.c
+	$(CXX) -Werror -fsyntax-only c/march.c c/words.c
 	$(RUN) $(OUT)/march > $(OUT)/march.out
 	@cat $(OUT)/march.out
 	@diff c/march.out $(OUT)/march.out && echo 'march: as in c/march.out'
@@ -65,5 +65,5 @@ $(OUT)/bench-plain: $(OBJ)/bench/plain.o $(PLAIN)
 $(OUT)/plain-%: $(OBJ)/plain/%.o $(PLAIN)
 	$(LINK) -o $@ $(BEFORE) $^ $(AFTER)
 
-$(OUT)/%: $(OBJ)/%.o archive
-	$(LINK) -o $@ $(BEFORE) $< $(ARCHIVE) $(AFTER)
+$(OUT)/%: $(OBJ)/%.o $(OBJ)/words.o archive
+	$(LINK) -o $@ $(BEFORE) $< $(OBJ)/words.o $(ARCHIVE) $(AFTER)
