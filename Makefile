@@ -21,10 +21,10 @@ HEADERS := include/ildorzhen.h $(wildcard c/*.h c/*/*.h)
 PLAIN := $(addprefix $(OBJ)/plain/,table.o operators.o least.o plan.o text.o)
 COMPARE := $(addprefix $(OBJ)/,compare.o compare/generate.o compare/plans.o)
 
-.PHONY: march compare bench test archive programs help
+.PHONY: march compare bench test archive header programs help
 
 ## march     the console on the night of March, and README's example, in C over the archive; each says what is stored
-march: $(OUT)/march $(OUT)/example
+march: header $(OUT)/march $(OUT)/example
 	$(CXX) -Werror -fsyntax-only c/march.c c/words.c c/example.c
 	$(RUN) $(OUT)/march > $(OUT)/march.out
 	@cat $(OUT)/march.out
@@ -45,8 +45,13 @@ archive:
 	@test "$$($(TOOL)/bin/llvm-ar t $(ARCHIVE) | wc -l)" -eq 1
 	$(TOOL)/bin/ld.lld --entry=0 --defsym=memcpy=0 --defsym=memset=0 --whole-archive $(ARCHIVE) -o $(OUT)/alone
 
+## header    the C header, the words and README held against the source; wrong headers, each of which must be told
+header:
+	c/check/run
+	c/check/wrong
+
 ## compare   every call against document 01 in plain C, on generated inputs
-compare: $(OUT)/compare
+compare: header $(OUT)/compare
 	$(RUN) $(OUT)/compare
 
 ## bench     x86-64 instructions of each job, the library's against the plain C's
