@@ -24,6 +24,7 @@ COMPARE := $(addprefix $(OBJ)/,compare.o compare/generate.o compare/plans.o)
 .PHONY: march compare bench test archive header programs help
 
 ## march     the console on the night of March, and README's example, in C over the archive; each says what is stored
+# Header and programs are C++ too.
 march: header $(OUT)/march $(OUT)/example
 	$(CXX) -Werror -fsyntax-only c/march.c c/words.c c/example.c
 	$(RUN) $(OUT)/march > $(OUT)/march.out

@@ -1,5 +1,5 @@
 # Holds the C header against the Rattle source, as texts: neither is compiled, so what cannot be read is told too.
-#   awk -f header.awk HEADER .../console/src/*.rt .../rules/src/reasons.rt .../rules/src/limits.rt
+#   awk -f header.awk HEADER .../console/src/.. .../rules/src/reasons.rt .../rules/src/limits.rt
 # A line for each difference, and exit status 1; one line that counts, and 0, where there is none.
 
 FILENAME ~ /\.h$/ && /\\$/ { tell("cannot read a line that goes on in the next: '" $0 "'") }
