@@ -65,11 +65,12 @@ static void show_steps(const uint8_t *steps, uint64_t length)
 {
     unsigned left[ROOM / 2 + 1] = {1}, depth = 0;
     for (uint64_t k = 0; k < length; k += 2) {
-        unsigned step = steps[k] + 256u * steps[k + 1];
-        printf("  %*s%s\n", (int)(2 * depth), "", step < 1024 ? TASKS[step] : METHODS[step - 1024]);
+        unsigned step = steps[k] + 256u * steps[k + 1], method = step - ILDORZHEN_METHOD_WORDS;
+        int is_method = step >= ILDORZHEN_METHOD_WORDS;
+        printf("  %*s%s\n", (int)(2 * depth), "", is_method ? METHODS[method] : TASKS[step]);
         left[depth]--;
-        if (step >= 1024)
-            left[++depth] = subtasks(step - 1024);
+        if (is_method)
+            left[++depth] = subtasks(method);
         while (depth > 0 && left[depth] == 0)
             depth--;
     }

@@ -46,6 +46,7 @@
 #define ILDORZHEN_MOST_TABLE_BYTES 32768
 #define ILDORZHEN_MOST_PLAN_BYTES 65536
 #define ILDORZHEN_MOST_SECTION_BYTES 2048
+#define ILDORZHEN_METHOD_WORDS 1024 /* in a step list the words from here on are methods, those below are actions */
 
 /* Refusals. Of several the first in this list is told; of 5 to 8 the one of the first number at fault, of 11 to 13 that of the
  * first line. README says who is to do what about each.
@@ -116,7 +117,7 @@ uint64_t ildorzhen_check_steps(uint64_t bound, uint64_t form, const uint8_t *tab
                                const uint8_t *plan, size_t plan_length);
 
 /* Expand a plan into its steps: the check first, then a word of 16 bits for each step, low byte first, action k as k, method k as
- * 1,024 + k, a method before the steps of its subtasks.
+ * ILDORZHEN_METHOD_WORDS + k, a method before the steps of its subtasks.
  * _length hands back how many bytes the steps take, two each; _write writes them and hands back the same, which is 0 only where
  * it refuses: an accepted plan has a step.
  * Refusals: 1 to 9, 11 to 15, then 16. Asked with no room (a null pointer and 0), 16 has the room needed as its place.
