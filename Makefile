@@ -9,45 +9,64 @@ QEMU := $(TOOL)/bin/qemu-x86_64
 EMULATOR := $(if $(filter x86_64,$(shell uname -m)),,$(QEMU) -cpu qemu64)
 RUN := $(EMULATOR) $(LOADER) --library-path $(LIB)
 CLANG := $(TOOL)/bin/clang --target=x86_64-unknown-linux-gnu -O2 -fPIC -Wall -Wextra -Wpedantic -Iinclude -Ic -isystem c/freestanding
-CC := $(CLANG) -std=c11
+CC := $(CLANG) -std=c99
 CXX := $(CLANG) -x c++ -std=c++11
 LINK := $(TOOL)/bin/ld.lld -pie --dynamic-linker $(LOADER)
 BEFORE := $(LIB)/Scrt1.o $(LIB)/crti.o $(LIB)/crtbeginS.o
 AFTER := $(LIB)/libc.so.6 $(LIB)/libc_nonshared.a $(LIB)/libgcc.a $(LIB)/crtendS.o $(LIB)/crtn.o
 OUT := target/c
 OBJ := $(OUT)/obj
-ARCHIVE := target/staticlib/libconsole.a
-HEADERS := include/ildorzhen.h $(wildcard c/*/*.h)
+ARCHIVE := target/libildorzhen.a
+HEADERS := include/ildorzhen.h $(wildcard c/*.h c/*/*.h)
 PLAIN := $(addprefix $(OBJ)/plain/,table.o operators.o least.o plan.o text.o)
 COMPARE := $(addprefix $(OBJ)/,compare.o compare/generate.o compare/plans.o)
 
-.PHONY: march compare bench test archive programs
+.PHONY: march compare bench test archive header programs help
 
-# The console on the night of March: prints what it says, then compares that with c/march.out. Header and program are C++ too.
-march: $(OUT)/march
-	$(CXX) -Werror -fsyntax-only c/march.c
+## march     the console on the night of March, and README's example, in C over the archive; each says what is stored
+# Header and programs are C++ too.
+march: header $(OUT)/march $(OUT)/example
+	$(CXX) -Werror -fsyntax-only c/march.c c/words.c c/example.c
 	$(RUN) $(OUT)/march > $(OUT)/march.out
 	@cat $(OUT)/march.out
 	@diff c/march.out $(OUT)/march.out && echo 'march: as in c/march.out'
+	$(RUN) $(OUT)/example > $(OUT)/example.out
+	@cat $(OUT)/example.out
+	@diff c/example.out $(OUT)/example.out && echo 'example: as in c/example.out'
 
-# Every call against the plain C, on generated inputs.
-compare: $(OUT)/compare
+## test      the gate: every crate proved from nothing, every must-fail edit refused, every program run
+test:
+	.ci/run
+
+## archive   target/libildorzhen.a, for C to link, from the proved source; that it needs memcpy and memset alone is tried
+archive:
+	rt staticlib console
+	mkdir -p $(OUT)
+	cp target/staticlib/libconsole.a $(ARCHIVE)
+	@test "$$($(TOOL)/bin/llvm-ar t $(ARCHIVE) | wc -l)" -eq 1
+	$(TOOL)/bin/ld.lld --entry=0 --defsym=memcpy=0 --defsym=memset=0 --whole-archive $(ARCHIVE) -o $(OUT)/alone
+
+## header    the C header, the words and README held against the source; wrong headers, each of which must be told
+header:
+	c/check/run
+	c/check/wrong
+
+## compare   every call against document 01 in plain C, on generated inputs
+compare: header $(OUT)/compare
 	$(RUN) $(OUT)/compare
 
-# Instructions against the plain C's.
+## bench     x86-64 instructions of each job, the library's against the plain C's
 bench: $(OUT)/bench-ours $(OUT)/bench-plain $(OUT)/plain-emit $(OUT)/plain-verify programs
 	c/bench/run $(QEMU) $(LOADER) $(LIB) $(OUT)/bench-ours $(OUT)/bench-plain \
 	    target/bin/emit $(OUT)/plain-emit target/bin/verify $(OUT)/plain-verify
 
-# The gate.
-test:
-	.ci/run
-
-archive:
-	rt staticlib console
-
+## programs  target/bin/verify and target/bin/emit, proved and run on their stored input
 programs:
 	rt check verify emit
+
+## help      this list
+help:
+	@sed -n 's/^## //p' Makefile
 
 $(OBJ)/%.o: c/%.c $(HEADERS)
 	mkdir -p $(@D)
@@ -65,5 +84,5 @@ $(OUT)/bench-plain: $(OBJ)/bench/plain.o $(PLAIN)
 $(OUT)/plain-%: $(OBJ)/plain/%.o $(PLAIN)
 	$(LINK) -o $@ $(BEFORE) $^ $(AFTER)
 
-$(OUT)/%: $(OBJ)/%.o archive
-	$(LINK) -o $@ $(BEFORE) $< $(ARCHIVE) $(AFTER)
+$(OUT)/%: $(OBJ)/%.o $(OBJ)/words.o archive
+	$(LINK) -o $@ $(BEFORE) $< $(OBJ)/words.o $(ARCHIVE) $(AFTER)

@@ -1,6 +1,7 @@
 /* The night of March, from the console's side: a table of switch procedures, the whole plan, the half plan that was taken for
  * a whole one, and damaged tables. The rule is in judge: nothing goes to the switches but an accepted plan's steps. */
 #include "ildorzhen.h"
+#include "words.h"
 #include <stdio.h>
 
 /* The library and the planner know numbers only; the names stand here, in the table's order. */
@@ -29,35 +30,14 @@ static const uint8_t TABLE[] = {
     5, 1, 2,         /* m2: for bring it back; 1 subtask: put on */
 };
 
-/* By refusal number: what its place is, and what the technician is told. Row 0 is for numbers newer than this program. */
-static const struct { const char *place, *sentence; } REFUSALS[] = {
-    {"at place", "a refusal that this program does not know"},
-    {"at place", "the bound is not 1 to 64"},
-    {"at place", "the form is not 0 or 1"},
-    {"at place", "the table is longer than 32,768 bytes"},
-    {"at place", "the plan is longer than 65,536 bytes"},
-    {"at table byte", "the table ends before this number or inside it"},
-    {"at table byte", "this number is not in its shortest form, or over 64 bits"},
-    {"at table byte", "this count or cost is beyond its range"},
-    {"at table byte", "this fact or task is not there, or the task is of the wrong kind"},
-    {"at table byte", "the table has ended, and bytes follow"},
-    {"at place", "there is no such section"},
-    {"at line", "this is not a plan's line, or its line feed is missing"},
-    {"at line", "this operator does not exist, or not at this position"},
-    {"at line", "the task of this operator is not on top, or a fact that it needs does not hold"},
-    {"after line", "the plan stops with work left on the stack"},
-    {"after line", "the plan ends and a goal fact is missing"},
-    {"with bytes to write", "there is too little room for the steps"},
-};
-
 typedef unsigned long long wide; /* for %llu: what uint64_t is differs from system to system */
 enum { ROOM = 64 };              /* bytes for a plan's steps, two each */
 
 static void tell_refusal(const char *name, uint64_t refusal, uint64_t place)
 {
-    uint64_t row = refusal < sizeof REFUSALS / sizeof REFUSALS[0] ? refusal : 0;
-    printf("%s: refused %llu %s %llu: %s; nothing was sent to the switches\n", name, (wide)refusal, REFUSALS[row].place,
-           (wide)place, REFUSALS[row].sentence);
+    struct ildorzhen_wording words = ildorzhen_words(refusal);
+    printf("%s: refused %llu %s %llu: %s; nothing was sent to the switches\n", name, (wide)refusal, words.place, (wide)place,
+           words.sentence);
 }
 
 /* The k-th number of TABLE, from 0, if it is below 128. A byte below 128 is the last of its number. */
@@ -85,17 +65,18 @@ static void show_steps(const uint8_t *steps, uint64_t length)
 {
     unsigned left[ROOM / 2 + 1] = {1}, depth = 0;
     for (uint64_t k = 0; k < length; k += 2) {
-        unsigned step = steps[k] + 256u * steps[k + 1];
-        printf("  %*s%s\n", (int)(2 * depth), "", step < 1024 ? TASKS[step] : METHODS[step - 1024]);
+        unsigned step = steps[k] + 256u * steps[k + 1], method = step - ILDORZHEN_METHOD_WORDS;
+        int is_method = step >= ILDORZHEN_METHOD_WORDS;
+        printf("  %*s%s\n", (int)(2 * depth), "", is_method ? METHODS[method] : TASKS[step]);
         left[depth]--;
-        if (step >= 1024)
-            left[++depth] = subtasks(step - 1024);
+        if (is_method)
+            left[++depth] = subtasks(method);
         while (depth > 0 && left[depth] == 0)
             depth--;
     }
 }
 
-/* Expanding refuses what the check refuses, in the same order, and last of all 16: more steps than there is room for. */
+/* Expanding refuses what the check refuses, in the same order, and last of all more steps than there is room for. */
 static void judge(const char *name, uint64_t bound, uint64_t form, const char *text, size_t length)
 {
     const uint8_t *plan = (const uint8_t *)text;
@@ -120,7 +101,7 @@ static uint64_t read_table(const char *name, const uint8_t *table, size_t length
         tell_refusal(name, refusal, ildorzhen_least_place(table, length));
     else
         printf("%s: accepted, least bound %llu, %llu sections for the planner\n", name, (wide)bound,
-               (wide)ildorzhen_sections_count(bound, 0, table, length));
+               (wide)ildorzhen_sections_count(bound, ILDORZHEN_PLAIN, table, length));
     return bound;
 }
 
@@ -135,11 +116,11 @@ int main(void)
     printf("  task: %s\n", TASKS[number(4)]);
     for (unsigned k = 0; k < number(0); k++)
         printf("  fact: %s%s%s\n", FACTS[k], (number(5) >> k) & 1 ? ", given" : "", (number(6) >> k) & 1 ? ", wanted" : "");
-    judge("whole plan", bound, 0, whole, sizeof whole - 1); /* a plan is without C's closing zero */
-    judge("the same in form 1", bound, 1, shorter, sizeof shorter - 1);
-    judge("half plan of March", bound, 0, half, sizeof half - 1);
-    judge("plan that loads nothing", bound, 0, unloaded, sizeof unloaded - 1);
-    judge("no plan", bound, 0, NULL, 0);
+    judge("whole plan", bound, ILDORZHEN_PLAIN, whole, sizeof whole - 1); /* a plan is without C's closing zero */
+    judge("the same in form 1", bound, ILDORZHEN_PREFIX, shorter, sizeof shorter - 1);
+    judge("half plan of March", bound, ILDORZHEN_PLAIN, half, sizeof half - 1);
+    judge("plan that loads nothing", bound, ILDORZHEN_PLAIN, unloaded, sizeof unloaded - 1);
+    judge("no plan", bound, ILDORZHEN_PLAIN, NULL, 0);
     /* Here the starting task becomes an action. Not every changed byte is refused: with another cost it is another good table. */
     uint8_t changed[sizeof TABLE];
     for (size_t k = 0; k < sizeof TABLE; k++)

@@ -1,4 +1,5 @@
-/* Ildorzhen: tables of approved procedures, and plans for them, checked and expanded into steps. c/march.c is an example.
+/* Ildorzhen: tables of approved procedures, and plans for them, checked and expanded into steps. c/example.c is a short example,
+ * c/march.c a longer one; c/words.c has words for the refusals.
  *
  * A call takes numbers and byte slices (a pointer, then the number of bytes there) and hands back one number. Where an answer
  * has several numbers there is a call for each, to be made with the same arguments. Nothing has to be checked before a call:
@@ -9,25 +10,6 @@
  *   .._place hands back 0 if there is no refusal, otherwise the refusal's place, which may be 0 too.
  *   Every other call hands back its result, or 0 if there is a refusal. A result may be 0 too: .._number tells them apart.
  *
- *   number and when                                                              place
- *    1  the bound is not 1 to 64                                                 0
- *    2  the form is neither 0 (plain) nor 1 (prefix)                             0
- *    3  the table is longer than 32,768 bytes                                    0
- *    4  the plan is longer than 65,536 bytes                                     0
- *    5  the table ends before or inside a number                                 byte of the table where that number begins
- *    6  a number of the table is not in its shortest form, or over 64 bits       the same
- *    7  a count or a cost of the table is beyond its range                       the same
- *    8  a fact or a task of the table is not there, or of the wrong kind         the same
- *    9  bytes follow the table                                                   the first of them
- *   10  there is no such section                                                 0
- *   11  a line of the plan has another shape, or no line feed                    its line, counted from 1, comments too
- *   12  a line's operator does not exist, or not at that position                the same
- *   13  a line's operator may not run where it stands                            the same
- *   14  the stack is not empty at the end                                        how many lines the plan has
- *   15  a goal fact is missing at the end                                        the same
- *   16  the caller's room is too small                                           how many bytes are to be written
- *   Of several the first in this list is told; of 5 to 8 the one of the first number at fault, of 11 to 13 that of the first line.
- *
  * Memory
  *   Only a call whose name ends in _write writes to the caller's memory, to the bytes that its comment names and no others; where
  *   it refuses it writes none. All other slices are only read. A slice of length 0 may have a null pointer; any other has to
@@ -35,12 +17,56 @@
  *   No call keeps a pointer, allocates, or remembers anything from call to call, so threads may call at the same time. A call
  *   takes less than 128 KB of the stack.
  *
- * The header is C99 and later, and C++. */
+ * The header is C99 and later, and C++. Its constants are plain numbers, for #if, case and the length of an array. */
 #ifndef ILDORZHEN_H
 #define ILDORZHEN_H
 
 #include <stddef.h>
 #include <stdint.h>
+
+/* The version: the minor number rises where something is added, the major where a call that was there is declared or answers
+ * otherwise. ILDORZHEN_VERSION has both, to compare with: from 1002 on it is 1.2 or later. The archive does not carry it: header
+ * and archive belong together. */
+#define ILDORZHEN_VERSION_MAJOR 1
+#define ILDORZHEN_VERSION_MINOR 0
+#define ILDORZHEN_VERSION (1000 * ILDORZHEN_VERSION_MAJOR + ILDORZHEN_VERSION_MINOR)
+
+/* Forms of a problem, and of the plans for it. */
+#define ILDORZHEN_PLAIN 0  /* an operator is one action or one method */
+#define ILDORZHEN_PREFIX 1 /* a method takes the actions with it that its subtasks begin with */
+
+/* Limits: the most there may be of each. */
+#define ILDORZHEN_MOST_FACTS 64
+#define ILDORZHEN_MOST_ACTIONS 255
+#define ILDORZHEN_MOST_TASKS 256 /* actions and abstract tasks together */
+#define ILDORZHEN_MOST_METHODS 512
+#define ILDORZHEN_MOST_SUBTASKS 8 /* of one method */
+#define ILDORZHEN_MOST_COST 65535 /* of one action */
+#define ILDORZHEN_MOST_BOUND 64
+#define ILDORZHEN_MOST_TABLE_BYTES 32768
+#define ILDORZHEN_MOST_PLAN_BYTES 65536
+#define ILDORZHEN_MOST_SECTION_BYTES 2048
+#define ILDORZHEN_METHOD_WORDS 1024 /* in a step list the words from here on are methods, those below are actions */
+
+/* Refusals. Of several the first in this list is told; of 5 to 8 the one of the first number at fault, of 11 to 13 that of the
+ * first line. README says who is to do what about each.
+ *                                       when                                                   place */
+#define ILDORZHEN_BAD_BOUND 1         /* the bound is not 1 to 64                               0 */
+#define ILDORZHEN_BAD_FORM 2          /* the form is neither 0 (plain) nor 1 (prefix)           0 */
+#define ILDORZHEN_TABLE_TOO_LONG 3    /* the table is longer than 32,768 bytes                  0 */
+#define ILDORZHEN_PLAN_TOO_LONG 4     /* the plan is longer than 65,536 bytes                   0 */
+#define ILDORZHEN_TABLE_ENDS 5        /* the table ends before or inside a number               table byte where it begins */
+#define ILDORZHEN_BAD_NUMBER 6        /* a number is not in its shortest form, or over 64 bits  the same */
+#define ILDORZHEN_OUT_OF_RANGE 7      /* a count or a cost is beyond its range                  the same */
+#define ILDORZHEN_NOT_THERE 8         /* a fact or a task is not there, or of the wrong kind    the same */
+#define ILDORZHEN_BYTES_AFTER_TABLE 9 /* bytes follow the table                                 the first of them */
+#define ILDORZHEN_NO_SUCH_SECTION 10  /* there is no such section                               0 */
+#define ILDORZHEN_LINE_SHAPE 11       /* a line of the plan has another shape, or no line feed  its line, from 1, comments too */
+#define ILDORZHEN_NOT_EMITTED 12      /* its operator does not exist, or not at that position   the same */
+#define ILDORZHEN_NOT_APPLICABLE 13   /* its operator may not run where it stands               the same */
+#define ILDORZHEN_STACK_NOT_EMPTY 14  /* the stack is not empty at the end                      how many lines the plan has */
+#define ILDORZHEN_GOAL_MISSING 15     /* a goal fact is missing at the end                      the same */
+#define ILDORZHEN_NO_ROOM 16          /* the caller's room is too small                         bytes to be written */
 
 #ifdef __cplusplus
 extern "C" {
@@ -91,7 +117,7 @@ uint64_t ildorzhen_check_steps(uint64_t bound, uint64_t form, const uint8_t *tab
                                const uint8_t *plan, size_t plan_length);
 
 /* Expand a plan into its steps: the check first, then a word of 16 bits for each step, low byte first, action k as k, method k as
- * 1,024 + k, a method before the steps of its subtasks.
+ * ILDORZHEN_METHOD_WORDS + k, a method before the steps of its subtasks.
  * _length hands back how many bytes the steps take, two each; _write writes them and hands back the same, which is 0 only where
  * it refuses: an accepted plan has a step.
  * Refusals: 1 to 9, 11 to 15, then 16. Asked with no room (a null pointer and 0), 16 has the room needed as its place.

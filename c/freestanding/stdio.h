@@ -1,4 +1,4 @@
-/* What c/march.c needs of <stdio.h>, for a compiler that comes without C's headers. */
+/* What the C here needs of <stdio.h>, for a compiler that comes without C's headers. */
 #ifndef FREESTANDING_STDIO_H
 #define FREESTANDING_STDIO_H
 #ifdef __cplusplus
