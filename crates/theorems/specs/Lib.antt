@@ -3,4 +3,3 @@ pub mod Runs
 pub mod Solutions
 pub mod Demand
 pub mod StepLists
-pub mod Measures
