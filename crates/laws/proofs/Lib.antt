@@ -1,4 +1,5 @@
 pub mod TestLaws
+pub mod AnswerLaws
 pub mod ListLaws
 pub mod TextLaws
 pub mod StoreLaws

@@ -1,34 +1,91 @@
--- The order of checks, a check at a time: what is refused, and what passes.
+-- The opening of a table, a check at a time: what is refused, and what passes. Room for a text.
 use mathlib.Core.Path.{_≡_, refl, ap, _∙_}
-use mathlib.Core.Bool.{Bool, true, false, _&&_, cond}
+use mathlib.Core.Bool.{Bool, true, false}
 use mathlib.Core.List.{List}
-use Prim.Native.Nat.{ℕ, _≤_, _<_}
-use borrow.Author.Tests.{le-leb, lt-leb}
+use Prim.Native.Nat.{ℕ, _+_, _≤_, _<_}
+use native.Mathlib.Decide.{decLe}
+use native.Mathlib.Omega.{arith}
+use borrow.Author.Tests.{le-leb, lt-leb, eq-eqb, ne-eqb}
 use lib.Dec.{leb}
 use lib.ListN.{length}
-use Rattle.basics.specs.Answers.{Answer, answer, refusal, check, after}
+use Rattle.basics.specs.Answers.{answer, refusal, check, after, lengthOf}
 use Rattle.basics.specs.Readings.{Reading, got, bad}
+use Rattle.rules.specs.Limits.{mostBound, mostTableBytes, mostPlanBytes}
+use Rattle.rules.specs.Reasons.{badBound, badForm, tableTooLong, planTooLong, noRoom}
 use Rattle.rules.specs.Tables.{Table, decode}
-use Rattle.rules.specs.Refusals.{tableFits, planFits, readOf, withTable}
+use Rattle.rules.specs.Refusals.{readOf, tableRead, opened, planNumber, roomOf, roomFor}
+use Rattle.laws.specs.Valid.{Valid}
+use Rattle.laws.proofs.AnswerLaws.{refused}
+use Rattle.laws.proofs.TableLaws.{valid}
 
-module _ {A : Type 0} (rest : Answer A) where
-  module _ (s : List ℕ) where
-    pub table-long : 32768 < length s → tableFits s rest ≡ refusal 3 0
-    table-long h = rw (lt-leb (length s) 32768 h)
+module _ (late : ℕ) (s : List ℕ) where
+  pub table-long : mostTableBytes < length s → tableRead late s ≡ refusal tableTooLong 0
+  unfolding tableRead
+  table-long h = rw (lt-leb (length s) mostTableBytes h)
 
-    pub table-passes : length s ≤ 32768 → tableFits s rest ≡ rest
-    table-passes h = rw (le-leb (length s) 32768 h)
+  module _ (h : length s ≤ mostTableBytes) where
+    pub late-refused : (late ≡ 0 → ⊥) → tableRead late s ≡ refusal late 0
+    unfolding tableRead
+    late-refused n = rw (le-leb (length s) mostTableBytes h, ne-eqb late 0 n)
 
-  module _ (plan : List ℕ) where
-    pub plan-long : 65536 < length plan → planFits plan rest ≡ refusal 4 0
-    plan-long h = rw (lt-leb (length plan) 65536 h)
+    pub table-is : late ≡ 0 → tableRead late s ≡ readOf (decode s)
+    unfolding tableRead
+    table-is z = rw (le-leb (length s) mostTableBytes h, eq-eqb late 0 z)
 
-    pub plan-passes : length plan ≤ 65536 → planFits plan rest ≡ rest
-    plan-passes h = rw (le-leb (length plan) 65536 h)
+-- A table that was read is valid.
+pub read-valid : (s : List ℕ) (t : Table) → readOf (decode s) ≡ answer t → Valid t
+read-valid s t e = go (decode s) refl e
+  where
+    go : (r : Reading Table) → decode s ≡ r → readOf r ≡ answer t → Valid t
+    go (got t′ n) d e = let q : t′ ≡ t = cc in valid s t n (d ∙ ap (λ (x : Table). got x n) q)
+    go (bad why at) d e = refused why at e
 
-module _ {A : Type 0} (s : List ℕ) (rest : Table → Answer A) where
-  pub table-bad : {why at : ℕ} → decode s ≡ bad why at → withTable s rest ≡ refusal why at
-  table-bad e = ap (λ (r : Reading Table). after (readOf r) rest) e
+module _ (late b f : ℕ) (s : List ℕ) where
+  pub bound-low : b < 1 → opened late b f s ≡ refusal badBound 0
+  unfolding opened
+  bound-low h = rw (lt-leb 1 b h)
 
-  pub table-got : {t : Table} {at : ℕ} → decode s ≡ got t at → withTable s rest ≡ rest t
-  table-got e = ap (λ (r : Reading Table). after (readOf r) rest) e
+  module _ (l : 1 ≤ b) where
+    pub bound-high : mostBound < b → opened late b f s ≡ refusal badBound 0
+    unfolding opened
+    bound-high h = rw (le-leb 1 b l, lt-leb b mostBound h)
+
+    module _ (h : b ≤ mostBound) where
+      pub form-bad : 1 < f → opened late b f s ≡ refusal badForm 0
+      unfolding opened
+      form-bad k = rw (le-leb 1 b l, le-leb b mostBound h, lt-leb f 1 k)
+
+      pub opened-is : f ≤ 1 → opened late b f s ≡ tableRead late s
+      unfolding opened
+      opened-is k = rw (le-leb 1 b l, le-leb b mostBound h, le-leb f 1 k)
+
+module _ (plan : List ℕ) where
+  pub plan-long : mostPlanBytes < length plan → planNumber plan ≡ planTooLong
+  unfolding planNumber
+  plan-long h = rw (lt-leb (length plan) mostPlanBytes h)
+
+  pub plan-fits : length plan ≤ mostPlanBytes → planNumber plan ≡ 0
+  unfolding planNumber
+  plan-fits h = rw (le-leb (length plan) mostPlanBytes h)
+
+  pub plan-small : planNumber plan ≡ 0 → length plan ≤ mostPlanBytes
+  plan-small e =
+      elim (decLe (length plan) mostPlanBytes) [
+        | yes h ↦ h
+        | no h ↦ let z = plan-long (omega arith) in absurd (omega (arith, z))
+      ]
+
+module _ (size at : ℕ) (x : List ℕ) where
+  pub room-short : size < at + length x → roomFor size at x ≡ refusal noRoom (length x)
+  room-short h = rw (lt-leb (at + length x) size h)
+
+  pub room-fits : at + length x ≤ size → roomFor size at x ≡ answer x
+  room-fits h = rw (le-leb (at + length x) size h)
+
+-- What there is to write has room by its length alone.
+pub room-length : (size at : ℕ) (x : List ℕ) → lengthOf (roomFor size at x) ≡ roomOf size at (length x)
+room-length size at x = go (leb (at + length x) size)
+  where
+    go : (c : Bool) → lengthOf (after (check c noRoom (length x) (answer (length x))) (λ _. answer x)) ≡ check c noRoom (length x) (answer (length x))
+    go true = refl
+    go false = refl

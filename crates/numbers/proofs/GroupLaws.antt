@@ -10,6 +10,7 @@ use borrow.Author.Tests.{lt-ltb, ne-eqb}
 use lib.Dec.{eqb, lit<}
 use lib.ListN.{length, drop, getD}
 use lib.Seq.{slice, slice-cons}
+use Rattle.rules.specs.Reasons.{badNumber}
 use Rattle.rules.specs.Numbers.{run, spell, sound, readNumber}
 use Rattle.basics.specs.Readings.{got, bad}
 use Rattle.laws.proofs.NumberLaws.{run-stop, run-more, spell-one, number-got, number-long}
@@ -90,7 +91,7 @@ module _ {s : List ℕ} {at j p v : ℕ} (b : Begun s at j p v) (h : at + j < le
         ∙ ap (λ (n : ℕ). v + p * n) (spell-one s (at + j) h k)
         ∙ ap (λ (n : ℕ). v + n) (mul-comm p (getD s (at + j) 0)))
 
-    pub group-bad : sound j (getD s (at + j) 0) ≡ false → readNumber s at ≡ bad 6 at
+    pub group-bad : sound j (getD s (at + j) 0) ≡ false → readNumber s at ≡ bad badNumber at
     group-bad t = number-long s at (at + j) ends h (ap (λ (n : ℕ). sound n (getD s (at + j) 0)) here ∙ t)
 
 sound-alone : (b : ℕ) → sound 0 b ≡ true

@@ -4,7 +4,11 @@ ghost use Prim.Native.Nat.{_+_, _-_, _*_, _^_, _≤_, _<_};
 ghost use lib.ListN.{length, drop, getD};
 ghost use lib.Seq.{slice};
 ghost use Rattle.rules.specs.Numbers.{run, spell, sound, readNumber, ranged};
+ghost use Rattle.rules.specs.Reasons.{notThere};
 ghost use Rattle.numbers.specs.Answers.{numOf};
+use rules::reasons::BAD_NUMBER;
+use rules::reasons::NOT_THERE;
+use rules::reasons::TABLE_ENDS;
 
 // A number and the place after it, or a refusal's number and place.
 pub enum Num {
@@ -71,12 +75,12 @@ fn slow(s: &[u8], at: usize) -> Num
 {
     let e = last(s, at);
     if s.len() <= e {
-        return Num::Bad(5, at);
+        return Num::Bad(TABLE_ENDS, at);
     }
     if shortest(e - at, wide(s[e])) {
         Num::Got(value(s, at, e), e + 1)
     } else {
-        Num::Bad(6, at)
+        Num::Bad(BAD_NUMBER, at)
     }
 }
 
@@ -102,7 +106,7 @@ fn long(s: &[u8], at: usize) -> Num
         let b = wide(s[at + j]);
         if b < 128 {
             if b == 0 {
-                return Num::Bad(6, at);
+                return Num::Bad(BAD_NUMBER, at);
             }
             return Num::Got(v + b * scale, at + j + 1);
         }
@@ -132,7 +136,7 @@ fn number(s: &[u8], at: usize) -> Num
             let b = wide(s[next]);
             if b < 128 {
                 if b == 0 {
-                    return Num::Bad(6, at);
+                    return Num::Bad(BAD_NUMBER, at);
                 }
                 return Num::Got(a % 128 + b * 128, next + 1);
             }
@@ -143,14 +147,14 @@ fn number(s: &[u8], at: usize) -> Num
 
 // One fact set, a number up to hi: one group or many.
 pub fn set(s: &[u8], at: usize, hi: u64) -> Num
-    ensures { λ r. ⌜ numOf r ≡ ranged (now (s .entry)) 0 hi 8 at ⌝ }
+    ensures { λ r. ⌜ numOf r ≡ ranged (now (s .entry)) 0 hi notThere at ⌝ }
 {
     let n = s.len();
     if at < n {
         let a = wide(s[at]);
         if a < 128 {
             if hi < a {
-                return Num::Bad(8, at);
+                return Num::Bad(NOT_THERE, at);
             }
             return Num::Got(a, at + 1);
         }
@@ -159,7 +163,7 @@ pub fn set(s: &[u8], at: usize, hi: u64) -> Num
         Num::Bad(w, p) => Num::Bad(w, p),
         Num::Got(v, next) => {
             if hi < v {
-                return Num::Bad(8, at);
+                return Num::Bad(NOT_THERE, at);
             }
             Num::Got(v, next)
         }

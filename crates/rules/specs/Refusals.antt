@@ -1,9 +1,11 @@
 -- "Refusal numbers": the order of checks, entry by entry, and what each entry answers for all inputs.
-use Prim.Native.Nat.{ℕ, _+_, _*_}
-use mathlib.Core.Bool.{Bool, _&&_}
+-- "Checks run in this order, an entry skipping what it lacks": every entry opens its table first, bound and form before it where the
+-- entry has them, and what it does then it does with the table alone.
+use Prim.Native.Nat.{ℕ, _+_}
+use mathlib.Core.Bool.{_&&_, cond}
 use mathlib.Core.List.{List, [], _++_}
 use lib.ListN.{length, getD, take, drop}
-use lib.Dec.{leb, ltb}
+use lib.Dec.{eqb, leb, ltb}
 use Rattle.basics.specs.Answers.{Answer, answer, refusal, check, after}
 use Rattle.basics.specs.Readings.{Reading, got, bad}
 use Rattle.rules.specs.Limits.{mostBound, mostTableBytes, mostPlanBytes}
@@ -23,57 +25,72 @@ boundFormed b f rest = check (leb 1 b && leb b mostBound) badBound 0 (check (leb
 abbrev pub tableFits : {A : Type 0} → List ℕ → Answer A → Answer A
 tableFits s rest = check (leb (length s) mostTableBytes) tableTooLong 0 rest
 
--- 4 "plan over 65,536 bytes".
-abbrev pub planFits : {A : Type 0} → List ℕ → Answer A → Answer A
-planFits plan rest = check (leb (length plan) mostPlanBytes) planTooLong 0 rest
+-- A check of the entry's own, which stands between the table's length and the table: its refusal's number, 0 where it passes or
+-- where the entry has none.
+abbrev pub passed : {A : Type 0} → ℕ → Answer A → Answer A
+passed late rest = check (eqb late 0) late 0 rest
+
+-- 4 "plan over 65,536 bytes": such a check.
+unfoldable pub planNumber : List ℕ → ℕ
+planNumber plan = cond (leb (length plan) mostPlanBytes) 0 planTooLong
 
 -- 5 to 9.
 abbrev pub readOf : {A : Type 0} → Reading A → Answer A
 readOf (got a at) = answer a
 readOf (bad why at) = refusal why at
 
-abbrev pub withTable : {A : Type 0} → List ℕ → (Table → Answer A) → Answer A
-withTable s rest = after (readOf (decode s)) rest
+-- The table, for an entry that takes no bound: 3, its own check, 5 to 9.
+unfoldable pub tableRead : ℕ → List ℕ → Answer Table
+tableRead late s = tableFits s (passed late (readOf (decode s)))
 
--- 16 "too little room", at "bytes to write". "A writing place past the end is no room."
+-- The table, for an entry with bound and form: 1 2 3, its own check, 5 to 9.
+unfoldable pub opened : ℕ → ℕ → ℕ → List ℕ → Answer Table
+opened late b f s = boundFormed b f (tableRead late s)
+
+-- 16 "too little room", at "bytes to write", for n bytes from the place `at` on of a text of `size`. "A writing place past the end is
+-- no room."
+abbrev pub roomOf : ℕ → ℕ → ℕ → Answer ℕ
+roomOf size at n = check (leb (at + n) size) noRoom n (answer n)
+
 abbrev pub roomFor : ℕ → ℕ → List ℕ → Answer (List ℕ)
-roomFor size at x = check (leb (at + length x) size) noRoom (length x) (answer x)
+roomFor size at x = after (roomOf size at (length x)) (λ _. answer x)
 
 -- Count the sections of a problem: 1 2 3 5-9.
 unfoldable pub countSections : ℕ → ℕ → List ℕ → Answer ℕ
-countSections b f s = boundFormed b f (tableFits s (withTable s (λ t. answer (length (sectionsOf b f t)))))
+countSections b f s = after (opened 0 b f s) (λ t. answer (length (sectionsOf b f t)))
 
 -- The text of section k: 10 "no such section".
 abbrev pub chosen : List (List ℕ) → ℕ → Answer (List ℕ)
 chosen sections k = check (ltb k (length sections)) noSuchSection 0 (answer (getD sections k []))
 
--- One section, to be written from the place `at` on of a text of `size` bytes: 1 2 3 5-9, 10 "no such section", 16.
+-- Section k of an opened table, to be written from the place `at` on of a text of `size` bytes: 10 16.
+abbrev pub sectionFor : ℕ → ℕ → Table → ℕ → ℕ → ℕ → Answer (List ℕ)
+sectionFor b f t k size at = after (chosen (sectionsOf b f t) k) (roomFor size at)
+
+-- One section: 1 2 3 5-9, 10 16.
 unfoldable pub oneSection : ℕ → ℕ → List ℕ → ℕ → ℕ → ℕ → Answer (List ℕ)
-oneSection b f s k size at =
-    boundFormed b f
-    (tableFits s
-    (withTable s (λ t. after (chosen (sectionsOf b f t) k) (roomFor size at))))
+oneSection b f s k size at = after (opened 0 b f s) (λ t. sectionFor b f t k size at)
 
 -- The whole problem, as the emitting program writes it: 1 2 3 5-9.
 unfoldable pub wholeProblem : ℕ → ℕ → List ℕ → Answer (List ℕ)
-wholeProblem b f s = boundFormed b f (tableFits s (withTable s (λ t. answer (problemText b f t))))
+wholeProblem b f s = after (opened 0 b f s) (λ t. answer (problemText b f t))
 
--- Check a plan: 1 2 3 4 5-9, 11 to 15.
+-- Check a plan: 1 2 3 4 5-9, 11-15.
 unfoldable pub checkPlan : ℕ → ℕ → List ℕ → List ℕ → Answer Tally
-checkPlan b f s plan = boundFormed b f (tableFits s (planFits plan (withTable s (λ t. checkLines b f t (linesOf plan)))))
+checkPlan b f s plan = after (opened (planNumber plan) b f s) (λ t. checkLines b f t (linesOf plan))
 
--- Expand a plan into the bytes of its steps, from the start of `size` bytes: the same, then 16.
+-- The bytes of a plan's steps, by an opened table, to be written from the start of `size` bytes: 11-15 16.
+abbrev pub stepsFor : ℕ → ℕ → Table → List ℕ → ℕ → Answer (List ℕ)
+stepsFor b f t plan size =
+    after (checkLines b f t (linesOf plan)) (λ _. roomFor size 0 (stepBytes (expandAll f t (opersOf (linesOf plan)))))
+
+-- Expand a plan: 1 2 3 4 5-9, 11-15 16.
 unfoldable pub expandPlan : ℕ → ℕ → List ℕ → List ℕ → ℕ → Answer (List ℕ)
-expandPlan b f s plan size =
-    boundFormed b f
-    (tableFits s
-    (planFits plan
-    (withTable s
-    (λ t. after (checkLines b f t (linesOf plan)) (λ _. roomFor size 0 (stepBytes (expandAll f t (opersOf (linesOf plan)))))))))
+expandPlan b f s plan size = after (opened (planNumber plan) b f s) (λ t. stepsFor b f t plan size)
 
 -- Least bound: "takes the table only", 3 5-9.
 unfoldable pub findLeast : List ℕ → Answer ℕ
-findLeast s = tableFits s (withTable s (λ t. answer (leastBound t)))
+findLeast s = after (tableRead 0 s) (λ t. answer (leastBound t))
 
 -- "written into the caller's text from a given place on; all other bytes stay". "Every refusal leaves all lent memory as found".
 unfoldable pub written : List ℕ → ℕ → Answer (List ℕ) → List ℕ

@@ -1,15 +1,31 @@
 // Reads a table: a row of numbers, each checked against its range.
 use numbers::Num;
+use numbers::field;
+use rules::limits::MOST_ACTIONS;
+use rules::limits::MOST_COST;
+use rules::limits::MOST_FACTS;
+use rules::limits::MOST_METHODS;
+use rules::limits::MOST_SUBTASKS;
+use rules::limits::MOST_TASKS;
+use rules::reasons::BYTES_AFTER_TABLE;
+use rules::reasons::NOT_THERE;
+use rules::reasons::OUT_OF_RANGE;
 use words::Action;
+use words::FIRST_METHOD;
+use words::HEADER;
+use words::PER_ACTION;
+use words::PER_METHOD;
 ghost use mathlib.Core.Path.{_≡_};
-ghost use Prim.Native.Nat.{_+_, _-_, _*_, _^_, _≤_, _<_};
-ghost use lib.ListN.{length, take};
+ghost use Prim.Native.Nat.{_+_, _-_, _*_, _≤_};
+ghost use lib.ListN.{length};
 ghost use Rattle.basics.specs.Lists.{rows};
 ghost use Rattle.basics.specs.Readings.{many};
+ghost use Rattle.rules.specs.Limits.{mostFacts, mostTasks};
+ghost use Rattle.rules.specs.Reasons.{notThere};
 ghost use Rattle.rules.specs.Numbers.{ranged};
 ghost use Rattle.rules.specs.Tables.{allFacts, header, readAction, readMethod, decode};
-ghost use Rattle.words.specs.Words.{headerOf, actionOf, cellOf, methodAt, methodOf, tableOf};
-ghost use Rattle.table.specs.Answers.{actOf, headerRead, headOf, startGoal, onwardOf};
+ghost use Rattle.words.specs.Words.{headerWords, perAction, perMethod, firstMethod, tableWords, headerOf, actionOf, cellOf, methodAt, methodOf, tableOf};
+ghost use Rattle.table.specs.Answers.{actOf, headerRead, headOf, startGoal, onwardOf, Reads};
 
 enum OneAction {
     Got(Action, usize),
@@ -26,7 +42,7 @@ fn read_action(s: &[u8], at: usize, top: u64) -> OneAction
             Num::Bad(why, p) => OneAction::Bad(why, p),
             Num::Got(adds, p2) => match numbers::set(s, p2, top) {
                 Num::Bad(why, p) => OneAction::Bad(why, p),
-                Num::Got(dels, p3) => match numbers::field(s, p3, 0, 65535, 7) {
+                Num::Got(dels, p3) => match field(s, p3, 0, MOST_COST, OUT_OF_RANGE) {
                     Num::Bad(why, p) => OneAction::Bad(why, p),
                     Num::Got(cost, p4) => OneAction::Got(
                         Action {
@@ -48,10 +64,10 @@ pub enum Onward {
     Bad(u64, usize),
 }
 
-// The actions, four words each from word 7 on.
+// The actions, in the words behind the header.
 fn read_actions(s: &[u8], at: usize, words: &mut [u64], n: usize, top: u64) -> Onward
-    requires { ⌜ 7 + 4 * n ≤ length (now words) ⌝ }
-    ensures { λ r. ⌜ (onwardOf r (rows (actionOf (now (words .exit))) n) ≡ many (readAction (now (s .entry)) top) n at) × (take 7 (now (words .exit)) ≡ take 7 (now (words .entry))) ⌝ }
+    requires { ⌜ headerWords + perAction * n ≤ length (now words) ⌝ }
+    ensures { λ r. ⌜ Reads r (rows (actionOf (now (words .exit))) n) (many (readAction (now (s .entry)) top) n at) headerWords (now (words .entry)) (now (words .exit)) ⌝ }
 {
     let mut k: usize = 0;
     let mut p = at;
@@ -61,7 +77,7 @@ fn read_actions(s: &[u8], at: usize, words: &mut [u64], n: usize, top: u64) -> O
                 return Onward::Bad(why, q);
             }
             OneAction::Got(a, next) => {
-                words::put_action(words, 7 + 4 * k, a);
+                words::put_action(words, HEADER + PER_ACTION * k, a);
                 p = next;
                 k += 1;
             }
@@ -73,12 +89,12 @@ fn read_actions(s: &[u8], at: usize, words: &mut [u64], n: usize, top: u64) -> O
 // n subtasks in the words from b on.
 fn read_subtasks(s: &[u8], at: usize, words: &mut [u64], b: usize, n: usize, hi: u64) -> Onward
     requires { ⌜ b + n ≤ length (now words) ⌝ }
-    ensures { λ r. ⌜ (onwardOf r (rows (cellOf b (now (words .exit))) n) ≡ many (ranged (now (s .entry)) 0 hi 8) n at) × (take b (now (words .exit)) ≡ take b (now (words .entry))) ⌝ }
+    ensures { λ r. ⌜ Reads r (rows (cellOf b (now (words .exit))) n) (many (ranged (now (s .entry)) 0 hi notThere) n at) b (now (words .entry)) (now (words .exit)) ⌝ }
 {
     let mut j: usize = 0;
     let mut p = at;
     while j < n {
-        match numbers::field(s, p, 0, hi, 8) {
+        match field(s, p, 0, hi, NOT_THERE) {
             Num::Bad(why, q) => {
                 return Onward::Bad(why, q);
             }
@@ -92,14 +108,14 @@ fn read_subtasks(s: &[u8], at: usize, words: &mut [u64], b: usize, n: usize, hi:
     Onward::To(p)
 }
 
-// One method in the ten words from b on: head, count, subtasks.
+// One method in the words from b on: head, count, subtasks.
 fn read_method(s: &[u8], at: usize, words: &mut [u64], b: usize, lo: u64, hi: u64) -> Onward
-    requires { ⌜ b + 10 ≤ length (now words) ⌝ }
-    ensures { λ r. ⌜ (onwardOf r (methodAt (now (words .exit)) b) ≡ readMethod (now (s .entry)) lo hi at) × (take b (now (words .exit)) ≡ take b (now (words .entry))) ⌝ }
+    requires { ⌜ b + perMethod ≤ length (now words) ⌝ }
+    ensures { λ r. ⌜ Reads r (methodAt (now (words .exit)) b) (readMethod (now (s .entry)) lo hi at) b (now (words .entry)) (now (words .exit)) ⌝ }
 {
-    match numbers::field(s, at, lo, hi, 8) {
+    match field(s, at, lo, hi, NOT_THERE) {
         Num::Bad(why, p) => Onward::Bad(why, p),
-        Num::Got(head, p1) => match numbers::field(s, p1, 0, 8, 7) {
+        Num::Got(head, p1) => match field(s, p1, 0, MOST_SUBTASKS, OUT_OF_RANGE) {
             Num::Bad(why, p) => Onward::Bad(why, p),
             Num::Got(n, p2) => {
                 words[b] = head;
@@ -110,15 +126,15 @@ fn read_method(s: &[u8], at: usize, words: &mut [u64], b: usize, lo: u64, hi: u6
     }
 }
 
-// The methods, ten words each from word 1027 on.
+// The methods, in the words behind all actions.
 fn read_methods(s: &[u8], at: usize, words: &mut [u64], n: usize, lo: u64, hi: u64) -> Onward
-    requires { ⌜ 1027 + 10 * n ≤ length (now words) ⌝ }
-    ensures { λ r. ⌜ (onwardOf r (rows (methodOf (now (words .exit))) n) ≡ many (readMethod (now (s .entry)) lo hi) n at) × (take 1027 (now (words .exit)) ≡ take 1027 (now (words .entry))) ⌝ }
+    requires { ⌜ firstMethod + perMethod * n ≤ length (now words) ⌝ }
+    ensures { λ r. ⌜ Reads r (rows (methodOf (now (words .exit))) n) (many (readMethod (now (s .entry)) lo hi) n at) firstMethod (now (words .entry)) (now (words .exit)) ⌝ }
 {
     let mut k: usize = 0;
     let mut p = at;
     while k < n {
-        match read_method(s, p, words, 1027 + 10 * k, lo, hi) {
+        match read_method(s, p, words, FIRST_METHOD + PER_METHOD * k, lo, hi) {
             Onward::Bad(why, q) => {
                 return Onward::Bad(why, q);
             }
@@ -148,10 +164,10 @@ enum OneHeader {
 
 // The greatest set of the first f facts.
 fn all_facts(f: u64) -> u64
-    requires { ⌜ f ≤ 64 ⌝ }
+    requires { ⌜ f ≤ mostFacts ⌝ }
     ensures { λ r. ⌜ r ≡ allFacts f ⌝ }
 {
-    if f == 64 {
+    if f == MOST_FACTS {
         return 0xffff_ffff_ffff_ffff;
     }
     (1u64 << f) - 1
@@ -166,16 +182,16 @@ fn read_start_goal(
     abstracts: u64,
     methods: u64,
 ) -> OneHeader
-    requires { ⌜ (facts ≤ 64) × (1 ≤ abstracts) × (actions + abstracts ≤ 256) ⌝ }
+    requires { ⌜ (facts ≤ mostFacts) × (1 ≤ abstracts) × (actions + abstracts ≤ mostTasks) ⌝ }
     ensures { λ r. ⌜ headOf r ≡ startGoal (now (s .entry)) facts actions abstracts methods at ⌝ }
 {
-    match numbers::field(s, at, actions, actions + abstracts - 1, 8) {
+    match field(s, at, actions, actions + abstracts - 1, NOT_THERE) {
         Num::Bad(why, p) => OneHeader::Bad(why, p),
         Num::Got(start, p1) => {
             let top = all_facts(facts);
-            match numbers::field(s, p1, 0, top, 8) {
+            match field(s, p1, 0, top, NOT_THERE) {
                 Num::Bad(why, p) => OneHeader::Bad(why, p),
-                Num::Got(init, p2) => match numbers::field(s, p2, 0, top, 8) {
+                Num::Got(init, p2) => match field(s, p2, 0, top, NOT_THERE) {
                     Num::Bad(why, p) => OneHeader::Bad(why, p),
                     Num::Got(goal, p3) => OneHeader::Got(
                         Header {
@@ -199,13 +215,13 @@ fn read_start_goal(
 fn read_header(s: &[u8]) -> OneHeader
     ensures { λ r. ⌜ headOf r ≡ header (now (s .entry)) 0 ⌝ }
 {
-    match numbers::field(s, 0, 0, 64, 7) {
+    match field(s, 0, 0, MOST_FACTS, OUT_OF_RANGE) {
         Num::Bad(why, p) => OneHeader::Bad(why, p),
-        Num::Got(facts, p1) => match numbers::field(s, p1, 0, 255, 7) {
+        Num::Got(facts, p1) => match field(s, p1, 0, MOST_ACTIONS, OUT_OF_RANGE) {
             Num::Bad(why, p) => OneHeader::Bad(why, p),
-            Num::Got(actions, p2) => match numbers::field(s, p2, 1, 256 - actions, 7) {
+            Num::Got(actions, p2) => match field(s, p2, 1, MOST_TASKS - actions, OUT_OF_RANGE) {
                 Num::Bad(why, p) => OneHeader::Bad(why, p),
-                Num::Got(abstracts, p3) => match numbers::field(s, p3, 0, 512, 7) {
+                Num::Got(abstracts, p3) => match field(s, p3, 0, MOST_METHODS, OUT_OF_RANGE) {
                     Num::Bad(why, p) => OneHeader::Bad(why, p),
                     Num::Got(methods, p4) => {
                         read_start_goal(s, p4, facts, actions, abstracts, methods)
@@ -216,9 +232,9 @@ fn read_header(s: &[u8]) -> OneHeader
     }
 }
 
-// The header in the first seven words.
+// The header in the first words.
 fn put_header(words: &mut [u64], h: Header)
-    requires { ⌜ 7 ≤ length (now words) ⌝ }
+    requires { ⌜ headerWords ≤ length (now words) ⌝ }
     ensures { λ _. ⌜ headerOf (now (words .exit)) ≡ headerRead h ⌝ }
 {
     words[0] = h.facts;
@@ -230,9 +246,9 @@ fn put_header(words: &mut [u64], h: Header)
     words[6] = h.goal;
 }
 
-// The whole table, into 6,147 words.
+// The whole table, into its words.
 pub fn read_table(s: &[u8], words: &mut [u64]) -> Onward
-    requires { ⌜ 6147 ≤ length (now words) ⌝ }
+    requires { ⌜ tableWords ≤ length (now words) ⌝ }
     ensures { λ r. ⌜ onwardOf r (tableOf (now (words .exit))) ≡ decode (now (s .entry)) ⌝ }
 {
     match read_header(s) {
@@ -260,7 +276,7 @@ pub fn read_table(s: &[u8], words: &mut [u64]) -> Onward
                         }
                         Onward::To(e) => {
                             if e < s.len() {
-                                return Onward::Bad(9, e);
+                                return Onward::Bad(BYTES_AFTER_TABLE, e);
                             }
                             return Onward::To(e);
                         }

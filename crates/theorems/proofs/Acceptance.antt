@@ -15,7 +15,7 @@ use Rattle.rules.specs.Plans.{Line, note, oper, other, opersOf, shaped}
 use Rattle.rules.specs.Checks.{Tally, Place, accepted, skip, apply, checkFrom}
 use Rattle.theorems.specs.Runs.{Run, TrueHeights}
 use Rattle.laws.proofs.TestLaws.{and-l, and-r, and-i, cond-true}
-use Rattle.theorems.proofs.Tests.{check-passed}
+use Rattle.laws.proofs.AnswerLaws.{check-passed}
 use Rattle.theorems.proofs.RunLaws.{run-over, run-back}
 use Rattle.theorems.proofs.Heights.{emitted-low, low-emitted}
 

@@ -1,29 +1,30 @@
 -- Demand 3, from bytes: which plans are accepted, the one operator list of a run, what an accepted plan solves, what it expands to.
-use Prim.Native.Nat.{ℕ, _+_, _*_, _≤_, _<_}
+use Prim.Native.Nat.{ℕ, _*_, _≤_, _<_}
 use mathlib.Core.Path.{_≡_, refl, sym, ap, _∙_}
 use mathlib.Core.Logic.{_↔_}
 use mathlib.Core.Bool.{_&&_}
 use mathlib.Core.List.{List, [], _∷_, map}
 use native.Mathlib.Omega.{arith}
 use lib.ListN.{length}
-use lib.Dec.{T, leb, le→leb, leb→le}
+use lib.Dec.{T, eqb, leb, eqb→eq, le→leb, leb→le}
 use Rattle.basics.specs.Answers.{Answer, answer, after}
-use Rattle.basics.specs.Readings.{Reading, got, bad}
-use Rattle.rules.specs.Tables.{Table, decode}
+use Rattle.rules.specs.Limits.{mostBound, mostTableBytes, mostPlanBytes}
+use Rattle.rules.specs.Reasons.{badBound, badForm, tableTooLong}
+use Rattle.rules.specs.Tables.{Table}
 use Rattle.rules.specs.Progression.{State, Step, act, mth, height, allowed, afterAll, begin, totalCost}
 use Rattle.rules.specs.Operators.{Operator, expand, expandAll}
 use Rattle.rules.specs.Plans.{Line, oper, linesOf, opersOf, shaped, textsOf}
 use Rattle.rules.specs.Checks.{Tally, accepted, checkLines, stepBytes}
-use Rattle.rules.specs.Refusals.{boundFormed, tableFits, planFits, readOf, withTable, roomFor, checkPlan, expandPlan}
+use Rattle.rules.specs.Refusals.{tableRead, opened, planNumber, roomFor, checkPlan, stepsFor, expandPlan}
 use Rattle.laws.specs.Valid.{Valid}
-use Rattle.laws.proofs.TableLaws.{valid}
+use Rattle.laws.proofs.AnswerLaws.{check-passed, after-passed}
+use Rattle.laws.proofs.RefusalLaws.{table-is, read-valid, opened-is, plan-fits, plan-small, room-fits}
 use Rattle.theorems.specs.Runs.{Run, CompleteRun, TrueHeights}
 use Rattle.theorems.specs.Solutions.{Solution, actionsOf, summed}
 use Rattle.theorems.specs.Demand.{Given, Accepted, ListOf}
 use Rattle.theorems.specs.StepLists.{stepsOf, Numbered, AllBytes}
-use Rattle.laws.proofs.TestLaws.{and-l, and-r, and-i, cond-true}
+use Rattle.laws.proofs.TestLaws.{and-l, and-r}
 use Rattle.laws.proofs.StepLaws.{bytes-length}
-use Rattle.theorems.proofs.Tests.{refused, check-passed}
 use Rattle.theorems.proofs.Heights.{Known, known}
 use Rattle.theorems.proofs.RunLaws.{run-back}
 use Rattle.theorems.proofs.Acceptance.{sound, complete}
@@ -46,7 +47,7 @@ known-small : (t : Table) → Valid t → (x : Step) → Known t x → numberOf 
 known-small t v (act k) h = omega (arith, v .head .actions)
 known-small t v (mth k) h = omega (arith, v .head .methods)
 
-small : (b f : ℕ) (t : Table) → Valid t → b ≤ 64 → (os : List Operator) (s : State) → T (leb (height s) b) → TrueHeights f t s os
+small : (b f : ℕ) (t : Table) → Valid t → b ≤ mostBound → (os : List Operator) (s : State) → T (leb (height s) b) → TrueHeights f t s os
     → Run b f t 0 s (expandAll f t os)
     → Small os
 small b f t v l [] s e h r = tt
@@ -63,33 +64,32 @@ numbered t v f b o s [] r = tt
 numbered t v f b o s (act k ∷ xs) r = let q = known t s (act k) (r .0) in (omega (arith, v .head .actions), numbered t v f b _ _ xs (r .2))
 numbered t v f b o s (mth k ∷ xs) r = let q = known t s (mth k) (r .0) in (omega (arith, v .head .methods), numbered t v f b _ _ xs (r .2))
 
--- What is accepted was in range, and its table was read.
+-- What is opened is in range, passed the entry's own check, and its table was read.
+pub opened-given : (late b f : ℕ) (s : List ℕ) (t : Table) → opened late b f s ≡ answer t → Given b f s t × (late ≡ 0)
+unfolding opened tableRead
+opened-given late b f s t e =
+    let q1 = check-passed (leb 1 b && leb b mostBound) badBound 0 _ e in
+    let q2 = check-passed (leb f 1) badForm 0 _ (q1 .1) in
+    let q3 = check-passed (leb (length s) mostTableBytes) tableTooLong 0 _ (q2 .1) in
+    let q4 = check-passed (eqb late 0) late 0 _ (q3 .1) in (
+      record {
+        low = leb→le 1 b (and-l (leb 1 b) (leb b mostBound) (q1 .0));
+        high = leb→le b mostBound (and-r (leb 1 b) (leb b mostBound) (q1 .0));
+        form = leb→le f 1 (q2 .0);
+        size = leb→le (length s) mostTableBytes (q3 .0);
+        reads = q4 .1;
+      },
+      eqb→eq late 0 (q4 .0),
+    )
+
+-- So is what is accepted.
 pub accepted-given : (b f : ℕ) (s plan : List ℕ) (c o k : ℕ) → checkPlan b f s plan ≡ accepted c o k
-    → (t : Table) × (n : ℕ) × Given b f s t n × (length plan ≤ 65536)
+    → (t : Table) × Given b f s t × (length plan ≤ mostPlanBytes)
 unfolding checkPlan
 accepted-given b f s plan c o k e =
-    let q1 = check-passed (leb 1 b && leb b 64) 1 0 _ e in
-    let q2 = check-passed (leb f 1) 2 0 _ (q1 .1) in
-    let q3 = check-passed (leb (length s) 32768) 3 0 _ (q2 .1) in
-    let q4 = check-passed (leb (length plan) 65536) 4 0 _ (q3 .1) in
-    go (decode s) refl (q4 .1) (q1 .0) (q2 .0) (q3 .0) (q4 .0)
-  where
-    go : (r : Reading Table) → decode s ≡ r → after (readOf r) (λ t. checkLines b f t (linesOf plan)) ≡ accepted c o k
-        → T (leb 1 b && leb b 64) → T (leb f 1) → T (leb (length s) 32768) → T (leb (length plan) 65536)
-        → (t : Table) × (n : ℕ) × Given b f s t n × (length plan ≤ 65536)
-    go (got t n) d a h1 h2 h3 h4 = (
-      t,
-      n,
-      record {
-        low = leb→le 1 b (and-l (leb 1 b) (leb b 64) h1);
-        high = leb→le b 64 (and-r (leb 1 b) (leb b 64) h1);
-        form = leb→le f 1 h2;
-        size = leb→le (length s) 32768 h3;
-        reads = d;
-      },
-      leb→le (length plan) 65536 h4,
-    )
-    go (bad why at) d a h1 h2 h3 h4 = refused why at a
+    let q = after-passed (opened (planNumber plan) b f s) (λ t. checkLines b f t (linesOf plan)) e in
+    let g = opened-given (planNumber plan) b f s (q .0) (q .1) in
+    (q .0, g .0, plan-small plan (g .1))
 
 -- The check of lines, both ways.
 module _ (b f : ℕ) (t : Table) (some : 1 ≤ b) (ls : List Line) (c o k : ℕ) where
@@ -119,26 +119,21 @@ module _ (b f : ℕ) (t : Table) (some : 1 ≤ b) (ls : List Line) (c o k : ℕ)
         steps = omega (arith, q .steps);
       }
 
-module _ {b f : ℕ} {s : List ℕ} {t : Table} {n : ℕ} (g : Given b f s t n) where
-  -- What is in range comes to the check of the plan's lines.
-  in-range : {A : Type 0} (plan : List ℕ) → length plan ≤ 65536 → (rest : Table → Answer A)
-      → boundFormed b f (tableFits s (planFits plan (withTable s rest))) ≡ rest t
-  in-range plan l rest =
-      cond-true (leb 1 b && leb b 64) _ _ (and-i (leb 1 b) (leb b 64) (le→leb 1 b (g .low)) (le→leb b 64 (g .high)))
-      ∙ cond-true (leb f 1) _ _ (le→leb f 1 (g .form))
-      ∙ cond-true (leb (length s) 32768) _ _ (le→leb (length s) 32768 (g .size))
-      ∙ cond-true (leb (length plan) 65536) _ _ (le→leb (length plan) 65536 l)
-      ∙ ap (λ r. after (readOf r) rest) (g .reads)
+module _ {b f : ℕ} {s : List ℕ} {t : Table} (g : Given b f s t) where
+  -- What is in range is opened, and comes to the check of the plan's lines.
+  opens : (plan : List ℕ) → length plan ≤ mostPlanBytes → opened (planNumber plan) b f s ≡ answer t
+  opens plan l =
+      opened-is (planNumber plan) b f s (g .low) (g .high) (g .form) ∙ table-is (planNumber plan) s (g .size) (plan-fits plan l) ∙ g .reads
 
-  checks : (plan : List ℕ) → length plan ≤ 65536 → checkPlan b f s plan ≡ checkLines b f t (linesOf plan)
+  checks : (plan : List ℕ) → length plan ≤ mostPlanBytes → checkPlan b f s plan ≡ checkLines b f t (linesOf plan)
   unfolding checkPlan
-  checks plan l = in-range plan l (λ t. checkLines b f t (linesOf plan))
+  checks plan l = ap (λ (a : Answer Table). after a (λ t. checkLines b f t (linesOf plan))) (opens plan l)
 
   table-valid : Valid t
-  table-valid = valid s t n (g .reads)
+  table-valid = read-valid s t (g .reads)
 
   -- (a) The check accepts exactly these plans, with these numbers.
-  pub accepts : (plan : List ℕ) → length plan ≤ 65536 → (c o k : ℕ) → (checkPlan b f s plan ≡ accepted c o k) ↔ Accepted b f t (linesOf plan) c o k
+  pub accepts : (plan : List ℕ) → length plan ≤ mostPlanBytes → (c o k : ℕ) → (checkPlan b f s plan ≡ accepted c o k) ↔ Accepted b f t (linesOf plan) c o k
   accepts plan l c o k = (
     (λ e. lines-accepted b f t (g .low) (linesOf plan) c o k (sym (checks plan l) ∙ e)),
     (λ a. checks plan l ∙ accepted-lines b f t (g .low) (linesOf plan) c o k a),
@@ -154,7 +149,7 @@ module _ {b f : ℕ} {s : List ℕ} {t : Table} {n : ℕ} (g : Given b f s t n) 
       )
 
   -- (c) The text of that list is accepted, with the run's cost, operators and steps.
-  pub run-accepted : (xs : List Step) → CompleteRun b f t xs → (os : List Operator) → ListOf f t xs os → length (textsOf os) ≤ 65536
+  pub run-accepted : (xs : List Step) → CompleteRun b f t xs → (os : List Operator) → ListOf f t xs os → length (textsOf os) ≤ mostPlanBytes
       → checkPlan b f s (textsOf os) ≡ accepted (totalCost t xs) (length os) (length xs)
   run-accepted xs r os h l =
       let q = h .heights in
@@ -172,7 +167,7 @@ module _ {b f : ℕ} {s : List ℕ} {t : Table} {n : ℕ} (g : Given b f s t n) 
         steps = rw (opers os, e);
       })
 
-  module _ (plan : List ℕ) (l : length plan ≤ 65536) (c o k : ℕ) (e : checkPlan b f s plan ≡ accepted c o k) where
+  module _ (plan : List ℕ) (l : length plan ≤ mostPlanBytes) (c o k : ℕ) (e : checkPlan b f s plan ≡ accepted c o k) where
     -- Its lines pass the check of lines.
     pub lines-pass : checkLines b f t (linesOf plan) ≡ accepted c o k
     lines-pass = sym (checks plan l) ∙ e
@@ -191,13 +186,12 @@ module _ {b f : ℕ} {s : List ℕ} {t : Table} {n : ℕ} (g : Given b f s t n) 
     pub expansion-is : (size : ℕ) → expandPlan b f s plan size ≡ roomFor size 0 (stepBytes (expandAll f t (opersOf (linesOf plan))))
     unfolding expandPlan
     expansion-is size =
-        in-range plan l (λ t. after (checkLines b f t (linesOf plan)) (λ _. roomFor size 0 (stepBytes (expandAll f t (opersOf (linesOf plan))))))
+        ap (λ (a : Answer Table). after a (λ t. stepsFor b f t plan size)) (opens plan l)
         ∙ ap (λ (a : Answer Tally). after a (λ _. roomFor size 0 (stepBytes (expandAll f t (opersOf (linesOf plan)))))) (sym (checks plan l) ∙ e)
 
     pub expansion : (size : ℕ) → 2 * k ≤ size → expandPlan b f s plan size ≡ answer (stepBytes (expandAll f t (opersOf (linesOf plan))))
     expansion size h =
-        let x = stepBytes (expandAll f t (opersOf (linesOf plan))) in
-        expansion-is size ∙ cond-true (leb (0 + length x) size) _ _ (le→leb (0 + length x) size (omega (arith, expansion-length)))
+        expansion-is size ∙ room-fits size 0 (stepBytes (expandAll f t (opersOf (linesOf plan)))) (omega (arith, expansion-length))
 
     -- (f) Each step fits its word, each byte is one, and the bytes read back as the steps.
     pub steps-numbered : Numbered (expandAll f t (opersOf (linesOf plan)))

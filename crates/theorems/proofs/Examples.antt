@@ -12,7 +12,7 @@ use Rattle.basics.specs.Texts.{bytes}
 use Rattle.rules.specs.Plans.{linesOf}
 use Rattle.rules.specs.Checks.{accepted, checkLines, stepBytes}
 use Rattle.rules.specs.LeastBounds.{leastBound}
-use Rattle.rules.specs.Refusals.{checkPlan, expandPlan, findLeast}
+use Rattle.rules.specs.Refusals.{planNumber, tableRead, opened, checkPlan, expandPlan, findLeast}
 
 abbrev tableT : List ℕ
 tableT = 1 ∷ 1 ∷ 1 ∷ 1 ∷ 1 ∷ 0 ∷ 1 ∷ 0 ∷ 1 ∷ 0 ∷ 3 ∷ 1 ∷ 1 ∷ 0 ∷ []
@@ -40,5 +40,5 @@ pub examples :
     × (checkPlan 1 1 tableU (bytes "(m0 1)\n") ≡ accepted 6 1 3)
     × (checkPlan 2 0 tableU (bytes "(m0 1)\n(a0 2)\n(a0 1)\n") ≡ accepted 6 3 3)
     × (findLeast tableU ≡ answer 2)
-unfolding many run spell sound numberAt inRange ranged header readAction readMethod closed decode without joinOne joinFrom joinOf joined positions linesOf checkLines stepBytes checkPlan expandPlan leastBound findLeast
+unfolding many run spell sound numberAt inRange ranged header readAction readMethod closed decode without joinOne joinFrom joinOf joined positions linesOf checkLines stepBytes planNumber tableRead opened checkPlan expandPlan leastBound findLeast
 examples = (refl, refl, refl, refl, refl, refl, refl, refl, refl, refl, refl, refl, refl, refl)

@@ -1,4 +1,3 @@
-pub mod Tests
 pub mod Emission
 pub mod Heights
 pub mod RunLaws

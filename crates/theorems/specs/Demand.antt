@@ -4,20 +4,22 @@ use mathlib.Core.Path.{_≡_}
 use mathlib.Core.List.{List}
 use lib.ListN.{length}
 use lib.Dec.{T}
-use Rattle.basics.specs.Readings.{got}
+use Rattle.basics.specs.Answers.{answer}
+use Rattle.rules.specs.Limits.{mostBound, mostTableBytes}
 use Rattle.rules.specs.Tables.{Table, decode}
 use Rattle.rules.specs.Progression.{Step, begin, totalCost}
 use Rattle.rules.specs.Operators.{Operator, expandAll}
 use Rattle.rules.specs.Plans.{Line, opersOf, shaped}
+use Rattle.rules.specs.Refusals.{readOf}
 use Rattle.theorems.specs.Runs.{CompleteRun, TrueHeights}
 
 -- Bound and form are in range, and the bytes s are the table t.
-pub record Given (b f : ℕ) (s : List ℕ) (t : Table) (n : ℕ) : Type 0 where
+pub record Given (b f : ℕ) (s : List ℕ) (t : Table) : Type 0 where
   pub low : 1 ≤ b
-  pub high : b ≤ 64
+  pub high : b ≤ mostBound
   pub form : f ≤ 1
-  pub size : length s ≤ 32768
-  pub reads : decode s ≡ got t n
+  pub size : length s ≤ mostTableBytes
+  pub reads : readOf (decode s) ≡ answer t
 
 -- All lines are in shape, their operators, each at its true height, expand to a complete run, and the numbers are those of its steps.
 pub record Accepted (b f : ℕ) (t : Table) (ls : List Line) (c o k : ℕ) : Type 0 where

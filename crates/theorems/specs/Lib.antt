@@ -4,4 +4,3 @@ pub mod Solutions
 pub mod Demand
 pub mod Counts
 pub mod StepLists
-pub mod Measures

@@ -1,11 +1,28 @@
--- A table in memory: 6,147 words, of which a header stands in 0 to 6, an action in four from 7 on, a method in ten from 1,027 on.
+-- A table in memory: the words of its header, then of its actions, then of its methods, each at a fixed place.
 use Prim.Native.Nat.{ℕ, _+_, _*_, _≤_}
 use mathlib.Core.List.{List}
 use lib.ListN.{length, getD}
 use Rattle.basics.specs.Lists.{rows}
+use Rattle.rules.specs.Limits.{mostActions, mostMethods}
 use Rattle.rules.specs.Tables.{Header, Action, Method, Table}
 use Rattle.laws.specs.Valid.{Valid}
 use Rattle.words.specs.declared.Action.{Action as ActionInCode}
+
+-- How many words a header, an action and a method take; where the methods begin; how many words a table takes.
+abbrev pub headerWords : ℕ
+headerWords = 7
+
+abbrev pub perAction : ℕ
+perAction = 4
+
+abbrev pub perMethod : ℕ
+perMethod = 10
+
+abbrev pub firstMethod : ℕ
+firstMethod = headerWords + perAction * mostActions
+
+abbrev pub tableWords : ℕ
+tableWords = firstMethod + perMethod * mostMethods
 
 abbrev pub headerOf : List ℕ → Header
 headerOf w =
@@ -19,12 +36,12 @@ headerOf w =
       goal = getD w 6 0;
     }
 
--- The action in the four words from b on.
+-- The action in the words from b on.
 abbrev pub actionAt : List ℕ → ℕ → Action
 actionAt w b = record { needs = getD w b 0; adds = getD w (b + 1) 0; dels = getD w (b + 2) 0; cost = getD w (b + 3) 0 }
 
 abbrev pub actionOf : List ℕ → ℕ → Action
-actionOf w k = actionAt w (7 + 4 * k)
+actionOf w k = actionAt w (headerWords + perAction * k)
 
 -- What the code's action says.
 abbrev pub actionRead : ActionInCode → Action
@@ -34,17 +51,17 @@ actionRead a = record { needs = a .needs; adds = a .adds; dels = a .dels; cost =
 abbrev pub cellOf : ℕ → List ℕ → ℕ → ℕ
 cellOf b w j = getD w (b + j) 0
 
--- The method in the ten words from b on: its head, its count of subtasks, and as many subtasks.
+-- The method in the words from b on: its head, its count of subtasks, and as many subtasks.
 abbrev pub methodAt : List ℕ → ℕ → Method
 methodAt w b = record { head = getD w b 0; subs = rows (cellOf (b + 2) w) (getD w (b + 1) 0) }
 
 abbrev pub methodOf : List ℕ → ℕ → Method
-methodOf w k = methodAt w (1027 + 10 * k)
+methodOf w k = methodAt w (firstMethod + perMethod * k)
 
 abbrev pub tableOf : List ℕ → Table
 tableOf w = record { head = headerOf w; actions = rows (actionOf w) (getD w 1 0); methods = rows (methodOf w) (getD w 3 0) }
 
 -- Words that hold a table that was read.
 pub record Held (w : List ℕ) : Type 0 where
-  pub size : 6147 ≤ length w
+  pub size : tableWords ≤ length w
   pub valid : Valid (tableOf w)

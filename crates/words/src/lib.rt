@@ -3,7 +3,18 @@ ghost use mathlib.Core.Path.{_≡_};
 ghost use Prim.Native.Nat.{_+_, _≤_, _<_};
 ghost use lib.ListN.{length, getD, take};
 ghost use Rattle.rules.specs.Tables.{factCount, actionCount, taskCount, methodCount, startTask, startFacts, goalFacts, action, method};
-ghost use Rattle.words.specs.Words.{actionRead, actionAt, tableOf, Held};
+ghost use Rattle.words.specs.Words.{perAction, actionRead, actionAt, tableOf, Held};
+
+// The words of a table, of its header, of an action and of a method; where the methods begin. The contracts say them by the names of specs/Words.
+pub const SIZE: usize = 6147;
+
+pub const HEADER: usize = 7;
+
+pub const PER_ACTION: usize = 4;
+
+pub const PER_METHOD: usize = 10;
+
+pub const FIRST_METHOD: usize = 1027;
 
 pub fn fact_count(words: &[u64]) -> u64
     requires { ⌜ Held (now words) ⌝ }
@@ -67,7 +78,7 @@ pub fn action_at(words: &[u64], k: usize) -> Action
     requires { ⌜ Held (now words) × (k < actionCount (tableOf (now words))) ⌝ }
     ensures { λ r. ⌜ actionRead r ≡ action (tableOf (now (words .entry))) k ⌝ }
 {
-    let b = 7 + 4 * k;
+    let b = HEADER + PER_ACTION * k;
     Action {
         needs: words[b],
         adds: words[b + 1],
@@ -78,7 +89,7 @@ pub fn action_at(words: &[u64], k: usize) -> Action
 
 // An action in the words from b on.
 pub fn put_action(words: &mut [u64], b: usize, a: Action)
-    requires { ⌜ b + 4 ≤ length (now words) ⌝ }
+    requires { ⌜ b + perAction ≤ length (now words) ⌝ }
     ensures { λ _. ⌜ (take b (now (words .exit)) ≡ take b (now (words .entry))) × (actionAt (now (words .exit)) b ≡ actionRead a) ⌝ }
 {
     words[b] = a.needs;
@@ -91,7 +102,7 @@ pub fn head_of(words: &[u64], k: usize) -> usize
     requires { ⌜ Held (now words) × (k < methodCount (tableOf (now words))) ⌝ }
     ensures { λ r. ⌜ r ≡ method (tableOf (now (words .entry))) k .head ⌝ }
 {
-    words[1027 + 10 * k] as usize
+    words[FIRST_METHOD + PER_METHOD * k] as usize
 }
 
 // How many subtasks method k has.
@@ -99,13 +110,13 @@ pub fn width_of(words: &[u64], k: usize) -> usize
     requires { ⌜ Held (now words) × (k < methodCount (tableOf (now words))) ⌝ }
     ensures { λ r. ⌜ r ≡ length (method (tableOf (now (words .entry))) k .subs) ⌝ }
 {
-    words[1027 + 10 * k + 1] as usize
+    words[FIRST_METHOD + PER_METHOD * k + 1] as usize
 }
 
 pub fn subtask(words: &[u64], k: usize, j: usize) -> usize
     requires { ⌜ Held (now words) × (k < methodCount (tableOf (now words))) × (j < length (method (tableOf (now words)) k .subs)) ⌝ }
     ensures { λ r. ⌜ r ≡ getD (method (tableOf (now (words .entry))) k .subs) j 0 ⌝ }
 {
-    let b = 1027 + 10 * k + 2;
+    let b = FIRST_METHOD + PER_METHOD * k + 2;
     words[b + j] as usize
 }

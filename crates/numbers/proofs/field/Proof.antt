@@ -1,7 +1,7 @@
 use borrow.Author.Tests.{le-leb, lt-leb}
 use Rattle.rules.specs.Numbers.{ranged, inRange}
 use Rattle.numbers.specs.Answers.{numOf}
-use Rattle.numbers.proofs.AnswerLaws.{via}
+use Rattle.laws.proofs.AnswerLaws.{via}
 use borrow.Author.Needs.{needs}
 use Rattle.numbers.proofs.field.Statement.{statement}
 use Rattle.numbers.proofs.field.Tie as tie

@@ -7,7 +7,7 @@ use Rattle.basics.specs.Readings.{got}
 use Rattle.rules.specs.Numbers.{ranged, inRange}
 use Rattle.numbers.specs.Answers.{numOf}
 use Rattle.numbers.proofs.GroupLaws.{one-group}
-use Rattle.numbers.proofs.AnswerLaws.{via}
+use Rattle.laws.proofs.AnswerLaws.{via}
 use borrow.Author.Needs.{needs}
 use Rattle.numbers.proofs.set.Statement.{statement}
 use Rattle.numbers.proofs.set.Tie as tie

@@ -1,6 +1,6 @@
 use Rattle.numbers.specs.Answers.{numOf}
 use Rattle.rules.specs.Tables.{readAction}
-use Rattle.numbers.proofs.AnswerLaws.{via}
+use Rattle.laws.proofs.AnswerLaws.{via}
 use borrow.Author.Needs.{needs}
 use Rattle.table.proofs.read_action.Statement.{statement}
 use Rattle.table.proofs.read_action.Tie as tie

@@ -3,7 +3,7 @@ use Rattle.basics.specs.Readings.{got, many}
 use Rattle.table.specs.Answers.{actOf}
 use Rattle.words.specs.Words.{actionOf}
 use Rattle.basics.specs.Lists.{rows}
-use Rattle.numbers.proofs.AnswerLaws.{via}
+use Rattle.laws.proofs.AnswerLaws.{via}
 use Rattle.table.proofs.WordLaws.{many-bad, turn, action-kept}
 use Rattle.laws.proofs.StoreLaws.{kept-less}
 use mathlib.Core.Path.{_≡_, refl, ap, sym, subst, _∙_}

@@ -3,7 +3,7 @@ use Rattle.rules.specs.Tables.{header}
 use Rattle.laws.proofs.NumberLaws.{ranged-got}
 use Rattle.numbers.specs.Answers.{numOf}
 use Rattle.table.specs.Answers.{startGoal}
-use Rattle.numbers.proofs.AnswerLaws.{via}
+use Rattle.laws.proofs.AnswerLaws.{via}
 use borrow.Author.Needs.{needs}
 use Rattle.table.proofs.read_header.Statement.{statement}
 use Rattle.table.proofs.read_header.Tie as tie

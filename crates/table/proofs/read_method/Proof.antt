@@ -5,7 +5,7 @@ use Rattle.numbers.specs.Answers.{numOf}
 use Rattle.table.specs.Answers.{onwardOf}
 use Rattle.rules.specs.Tables.{readMethod}
 use Rattle.laws.proofs.NumberLaws.{ranged-got}
-use Rattle.numbers.proofs.AnswerLaws.{via}
+use Rattle.laws.proofs.AnswerLaws.{via}
 use Rattle.table.proofs.WordLaws.{put-method, method-got}
 use borrow.Author.Needs.{needs}
 use Rattle.table.proofs.read_method.Statement.{statement}

@@ -8,7 +8,7 @@ use Rattle.rules.specs.Tables.{readMethod}
 use Rattle.words.specs.Words.{methodOf}
 use Rattle.basics.specs.Lists.{rows}
 use Rattle.table.specs.Answers.{onwardOf}
-use Rattle.numbers.proofs.AnswerLaws.{via}
+use Rattle.laws.proofs.AnswerLaws.{via}
 use Rattle.table.proofs.WordLaws.{many-bad, turn, method-kept}
 use Rattle.laws.proofs.StoreLaws.{kept-less}
 use borrow.Author.Needs.{needs}

@@ -1,6 +1,6 @@
 use Rattle.numbers.specs.Answers.{numOf}
 use Rattle.table.specs.Answers.{startGoal}
-use Rattle.numbers.proofs.AnswerLaws.{via}
+use Rattle.laws.proofs.AnswerLaws.{via}
 use borrow.Author.Needs.{needs}
 use Rattle.table.proofs.read_start_goal.Statement.{statement}
 use Rattle.table.proofs.read_start_goal.Tie as tie

@@ -8,7 +8,7 @@ use Rattle.basics.specs.Readings.{got, many}
 use Rattle.rules.specs.Numbers.{ranged}
 use Rattle.words.specs.Words.{cellOf}
 use Rattle.numbers.specs.Answers.{numOf}
-use Rattle.numbers.proofs.AnswerLaws.{via}
+use Rattle.laws.proofs.AnswerLaws.{via}
 use Rattle.table.proofs.WordLaws.{many-bad, turn, cell-stored, cell-kept}
 use borrow.Author.Needs.{needs}
 use Rattle.table.proofs.read_subtasks.Statement.{statement}

@@ -7,7 +7,7 @@ use Rattle.basics.specs.Lists.{rows}
 use Rattle.words.specs.Words.{actionOf, methodOf}
 use Rattle.table.specs.Answers.{headerRead, headOf, onwardOf}
 use Rattle.table.specs.declared.Onward.{Onward}
-use Rattle.numbers.proofs.AnswerLaws.{via}
+use Rattle.laws.proofs.AnswerLaws.{via}
 use Rattle.table.proofs.WordLaws.{table-held}
 use Rattle.laws.proofs.TableLaws.{bounded}
 use borrow.Author.Needs.{needs}
