@@ -2,9 +2,9 @@ use borrow.Author.Needs.{needs}
 use mathlib.Core.Path.{ap}
 use native.Mathlib.Omega.{arith}
 use Rattle.text.proofs.AppendLaws.{appends-is}
-use Rattle.changes.specs.Changes.{before}
-use Rattle.changes.proofs.put_before.Statement.{statement}
-use Rattle.changes.proofs.put_before.Tie as tie
+use Rattle.listing.specs.Listings.{before}
+use Rattle.listing.proofs.put_before.Statement.{statement}
+use Rattle.listing.proofs.put_before.Tie as tie
 
 slice-aggregate-put : tie.Need-slice-aggregate-put
 slice-aggregate-put c = search needs
