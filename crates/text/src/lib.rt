@@ -32,7 +32,7 @@ fn put_digits(out: &mut [u8], at: usize, n: u64) -> usize
     requires { ⌜ at + length (digits n) ≤ length (now out) ⌝ }
     ensures { λ r. ⌜ Appends (now (out .entry)) at (digits n) (now (out .exit)) r ⌝ }
 {
-    let last = 48 + (n % 10) as u8;
+    let last = b'0' + (n % 10) as u8;
     if n < 10 {
         out[at] = last;
         return at + 1;
