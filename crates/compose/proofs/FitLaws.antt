@@ -1,29 +1,29 @@
 -- Prepared rows: their lines are the operators' texts, and they keep to what composing asks.
 use mathlib.Core.Path.{_≡_, sym, ap, subst, _∙_}
 use mathlib.Core.List.{List}
-use Prim.Native.Nat.{ℕ, _+_, _-_, _^_, _≤_, _<_}
+use Prim.Native.Nat.{ℕ, suc, _+_, _-_, _^_, _≤_, _<_}
 use native.Mathlib.Omega.{arith}
 use lib.ListN.{length, getD, length-drop}
 use lib.Seq.{getD-drop}
 use Rattle.rules.specs.Tables.{Table, actionCount, methodCount, factCount, taskCount, method}
 use Rattle.rules.specs.Progression.{Step, prefix}
 use Rattle.rules.specs.Operators.{taskOf, leaves}
-use Rattle.rules.specs.Sections.{nameOf, operatorLines, operatorText}
+use Rattle.rules.specs.Problems.{nameOf, operAt, operOf}
 use Rattle.laws.specs.Valid.{Valid}
-use Rattle.laws.specs.Steps.{stepAt}
+use Rattle.laws.specs.Steps.{stepAt, operatorText}
 use Rattle.laws.proofs.JoinSizes.{joined-low}
 use Rattle.laws.proofs.StepNumbers.{by-step}
 use Rattle.laws.proofs.StepSizes.{leaves-few}
 use Rattle.rows.specs.Rows.{Row, rowAt, rowOf}
 use Rattle.rows.specs.Stacks.{stackOf}
 use Rattle.rows.proofs.RowLaws.{stay-is}
-use Rattle.compose.specs.RowTexts.{rowLines, Fit}
-use Rattle.compose.proofs.LineLaws.{stack-at}
+use Rattle.compose.specs.RowTexts.{rowText, Fit}
+use Rattle.compose.proofs.GroupLaws.{stack-at}
 
-pub row-lines : (b f : ℕ) (t : Table) (x : Step) (ops cells : List ℕ) (i : ℕ) → rowAt ops cells 0 ≡ rowOf b f t x
-    → rowLines (factCount t) (taskCount t) (nameOf x) (rowAt ops cells 0) i ≡ operatorText f t (record { what = x; at = i })
-unfolding operatorText operatorLines
-row-lines b f t x ops cells i e = ap (λ (r : Row). rowLines (factCount t) (taskCount t) (nameOf x) r i) e
+pub row-text : (b f : ℕ) (t : Table) (x : Step) (ops cells : List ℕ) (p : ℕ) → rowAt ops cells 0 ≡ rowOf b f t x
+    → rowText (factCount t) (taskCount t) (nameOf x) (rowAt ops cells 0) p ≡ operatorText f t (record { what = x; at = suc p })
+unfolding operOf operAt
+row-text b f t x ops cells p e = ap (λ (r : Row). rowText (factCount t) (taskCount t) (nameOf x) r p) e
 
 -- The task of a step and those that it leaves are tasks of the table.
 module _ (f : ℕ) (t : Table) (v : Valid t) (i : ℕ) (l : i < actionCount t + methodCount t) where

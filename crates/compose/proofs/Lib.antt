@@ -1,4 +1,2 @@
-mod DrawLaws
-mod PieceLaws
-mod LineLaws
+pub mod GroupLaws
 pub mod FitLaws

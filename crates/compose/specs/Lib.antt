@@ -1,3 +1,2 @@
+pub mod Groups
 pub mod RowTexts
-pub mod Pieces
-pub mod Draws

@@ -1,82 +1,24 @@
 // The text of an operator's template, composed once from its row.
 ghost use mathlib.Core.Path.{_≡_};
 ghost use mathlib.Core.Bool.{cond};
-ghost use mathlib.Core.List.{List, [], _∷_, _++_};
-ghost use Prim.Native.Nat.{ℕ, suc, _+_, _-_, _*_, _≤_, _<_};
-ghost use lib.Dec.{eqb};
-ghost use lib.Bits.{bitOr};
+ghost use mathlib.Core.List.{_∷_};
+ghost use Prim.Native.Nat.{_+_, _*_, _≤_, _<_};
+ghost use lib.Count.{ones};
 ghost use lib.ListN.{length, getD};
-ghost use Rattle.basics.specs.Lists.{concat};
-ghost use Rattle.basics.specs.Texts.{bytes, digits, line};
-ghost use Rattle.rules.specs.Facts.{without};
-ghost use Rattle.rules.specs.Sections.{effectLine, bottomNext};
-ghost use Rattle.template.specs.Templates.{Drawn};
+ghost use Rattle.basics.specs.Texts.{digits};
+ghost use Rattle.rules.specs.Limits.{mostFacts, mostSubtasks};
+ghost use Rattle.rules.specs.Problems.{bottomNext};
+ghost use Rattle.template.specs.Sizes.{operatorBytes};
+ghost use Rattle.template.specs.Templates.{Drawn, Blank};
+ghost use Rattle.drawing.specs.Draws.{Space, Room, Draws, Writes};
+ghost use Rattle.stack_lines.specs.StackLines.{Tasks};
 ghost use Rattle.rows.specs.Stacks.{stackOf};
 ghost use Rattle.rows.specs.Rows.{rowAt};
-ghost use Rattle.changes.specs.Changes.{changeLines};
-ghost use Rattle.compose.specs.Pieces.{keptLines, topStays, taskStays, topMoves, taskMoves, pushes as Pieces·pushes, prevailText, effectText, prevailNumbers, effectNumbers, Tasks};
-ghost use Rattle.compose.specs.RowTexts.{rowLines, Fit};
-ghost use Rattle.compose.specs.Draws.{Space, Room, Draws};
+ghost use Rattle.compose.specs.Groups as Groups;
+ghost use Rattle.compose.specs.Groups.{factLines, prevailCount, effectCount, prevailGroup, effectGroup};
+ghost use Rattle.compose.specs.RowTexts.{rowText, Fit};
+use listing::Says;
 use template::Pen;
-
-// Text in which no number moves.
-fn write(t: &mut [u8], pen: Pen, s: &[u8]) -> Pen
-    requires { ⌜ Space (length (now s)) (now t) pen ⌝ }
-    ensures { λ r. ⌜ ((lens offs : List ℕ) → Draws (now (t .entry)) lens offs pen (λ _. now (s .entry)) (length (now (s .entry))) 0 (now (t .exit)) lens offs r) ⌝ }
-{
-    let next = text::put(t, pen.at, s);
-    Pen {
-        at: next,
-        from: pen.from,
-        count: pen.count,
-    }
-}
-
-// Text, and a number of at most three digits that does not move.
-fn field(t: &mut [u8], pen: Pen, s: &[u8], n: u64) -> Pen
-    requires { ⌜ Space (length (now s) + 3) (now t) pen × (n < 1000) ⌝ }
-    ensures { λ r. ⌜ ((lens offs : List ℕ) → Draws (now (t .entry)) lens offs pen (λ _. now (s .entry) ++ digits n) (length (now (s .entry)) + 3) 0 (now (t .exit)) lens offs r) ⌝ }
-{
-    let next = text::put_field(t, pen.at, s, n);
-    Pen {
-        at: next,
-        from: pen.from,
-        count: pen.count,
-    }
-}
-
-// Text, and the position plus o.
-fn moving(t: &mut [u8], lens: &mut [usize], offs: &mut [usize], pen: Pen, s: &[u8], o: usize) -> Pen
-    requires { ⌜ Room (length (now s)) 1 (now t) (now lens) (now offs) pen × (o ≤ 448) ⌝ }
-    ensures { λ r. ⌜ Draws (now (t .entry)) (now (lens .entry)) (now (offs .entry)) pen (λ p. now (s .entry) ++ digits (p + o)) (length (now (s .entry))) 1 (now (t .exit)) (now (lens .exit)) (now (offs .exit)) r ⌝ }
-{
-    let stop = write(t, pen, s);
-    template::number(lens, offs, stop, o)
-}
-
-// The same two with a line feed after them.
-fn field_line(t: &mut [u8], pen: Pen, s: &[u8], n: u64) -> Pen
-    requires { ⌜ Space (length (now s) + 4) (now t) pen × (n < 1000) ⌝ }
-    ensures { λ r. ⌜ ((lens offs : List ℕ) → Draws (now (t .entry)) lens offs pen (λ _. now (s .entry) ++ digits n ++ bytes "\n") (length (now (s .entry)) + 4) 0 (now (t .exit)) lens offs r) ⌝ }
-{
-    let next = field(t, pen, s, n);
-    write(t, next, b"\n")
-}
-
-fn moving_line(
-    t: &mut [u8],
-    lens: &mut [usize],
-    offs: &mut [usize],
-    pen: Pen,
-    s: &[u8],
-    o: usize,
-) -> Pen
-    requires { ⌜ Room (length (now s) + 1) 1 (now t) (now lens) (now offs) pen × (o ≤ 448) ⌝ }
-    ensures { λ r. ⌜ Draws (now (t .entry)) (now (lens .entry)) (now (offs .entry)) pen (λ p. now (s .entry) ++ digits (p + o) ++ bytes "\n") (length (now (s .entry)) + 1) 1 (now (t .exit)) (now (lens .exit)) (now (offs .exit)) r ⌝ }
-{
-    let next = moving(t, lens, offs, pen, s, o);
-    write(t, next, b"\n")
-}
 
 // The name and the position.
 fn opening(
@@ -87,19 +29,19 @@ fn opening(
     letter: u8,
     k: u64,
 ) -> Pen
-    requires { ⌜ Room 21 1 (now t) (now lens) (now offs) pen × (k < 1000) ⌝ }
-    ensures { λ r. ⌜ Draws (now (t .entry)) (now (lens .entry)) (now (offs .entry)) pen (λ p. bytes "begin_operator\n" ++ line ((letter ∷ digits k) ∷ digits (suc p) ∷ [])) 21 1 (now (t .exit)) (now (lens .exit)) (now (offs .exit)) r ⌝ }
+    requires { ⌜ Room (Groups.opening letter k) (now t) (now lens) (now offs) pen × (k < 1000) ⌝ }
+    ensures { λ r. ⌜ Draws (Groups.opening letter k) (now (t .entry)) (now (lens .entry)) (now (offs .entry)) pen (now (t .exit)) (now (lens .exit)) (now (offs .exit)) r ⌝ }
 {
     let kind = [letter];
-    let name = write(t, pen, b"begin_operator\n");
-    let number = field(t, name, &kind, k);
-    moving_line(t, lens, offs, number, b" ", 1)
+    let name = drawing::write(t, pen, b"begin_operator\n");
+    let number = drawing::field(t, name, &kind, k);
+    drawing::moving_line(t, lens, offs, number, b" ", 1)
 }
 
 // What it costs, and the end.
 fn ending(t: &mut [u8], pen: Pen, cost: u64) -> Pen
-    requires { ⌜ Space 34 (now t) pen ⌝ }
-    ensures { λ r. ⌜ ((lens offs : List ℕ) → Draws (now (t .entry)) lens offs pen (λ _. line (digits cost ∷ []) ++ bytes "end_operator\n") 34 0 (now (t .exit)) lens offs r) ⌝ }
+    requires { ⌜ Space (Groups.ending cost) (now t) pen ⌝ }
+    ensures { λ r. ⌜ Writes (Groups.ending cost) (now (t .entry)) pen (now (t .exit)) r ⌝ }
 {
     let next = text::put_number(t, pen.at, cost);
     let end = text::put(t, next, b"\nend_operator\n");
@@ -110,13 +52,13 @@ fn ending(t: &mut [u8], pen: Pen, cost: u64) -> Pen
     }
 }
 
-// How many lines prevail, and those of the facts.
-fn kept_lines(t: &mut [u8], pen: Pen, n: u64, set: u64, top: u64) -> Pen
-    requires { ⌜ Space 388 (now t) pen × (n < 1000) × (top ≤ 64) ⌝ }
-    ensures { λ r. ⌜ ((lens offs : List ℕ) → Draws (now (t .entry)) lens offs pen (λ _. line (digits n ∷ []) ++ concat (keptLines top set)) 388 0 (now (t .exit)) lens offs r) ⌝ }
+// How many lines a group has, and those of its facts.
+fn fact_lines(t: &mut [u8], pen: Pen, n: u64, says: Says, top: u64, set: u64) -> Pen
+    requires { ⌜ Space (factLines n says top set) (now t) pen × (n < 1000) × (top ≤ mostFacts) ⌝ }
+    ensures { λ r. ⌜ Writes (factLines n says top set) (now (t .entry)) pen (now (t .exit)) r ⌝ }
 {
-    let lines = field_line(t, pen, b"", n);
-    let next = text::put_members(t, lines.at, set, top);
+    let lines = drawing::field_line(t, pen, b"", n);
+    let next = listing::put_lines(t, lines.at, says, set, top);
     Pen {
         at: next,
         from: lines.from,
@@ -124,142 +66,45 @@ fn kept_lines(t: &mut [u8], pen: Pen, n: u64, set: u64, top: u64) -> Pen
     }
 }
 
-// How many lines change something, and those of the facts.
-fn change_lines(t: &mut [u8], pen: Pen, n: u64, needs: u64, dels: u64, set: u64, top: u64) -> Pen
-    requires { ⌜ Space 708 (now t) pen × (n < 1000) × (top ≤ 64) ⌝ }
-    ensures { λ r. ⌜ ((lens offs : List ℕ) → Draws (now (t .entry)) lens offs pen (λ _. line (digits n ∷ []) ++ concat (changeLines top needs dels set)) 708 0 (now (t .exit)) lens offs r) ⌝ }
+fn one_if(b: bool) -> u64
+    ensures { λ r. ⌜ r ≡ cond b 1 0 ⌝ }
+    ensures { λ r. ⌜ r ≤ 1 ⌝ }
 {
-    let lines = field_line(t, pen, b"", n);
-    let next = changes::put_changes(t, lines.at, needs, dels, set, top);
-    Pen {
-        at: next,
-        from: lines.from,
-        count: lines.count,
-    }
+    if b { 1 } else { 0 }
 }
 
-// The top, where one task is left and it stays.
-fn top_stays(
-    t: &mut [u8],
-    lens: &mut [usize],
-    offs: &mut [usize],
-    pen: Pen,
-    top: u64,
-    stay: u64,
-) -> Pen
-    requires { ⌜ Room 5 (cond (eqb stay 1) 1 0) (now t) (now lens) (now offs) pen × (top ≤ 64) ⌝ }
-    ensures { λ r. ⌜ Draws (now (t .entry)) (now (lens .entry)) (now (offs .entry)) pen (topStays top stay) 5 (cond (eqb stay 1) 1 0) (now (t .exit)) (now (lens .exit)) (now (offs .exit)) r ⌝ }
+fn none_if(b: bool) -> u64
+    ensures { λ r. ⌜ r ≡ cond b 0 1 ⌝ }
+    ensures { λ r. ⌜ r ≤ 1 ⌝ }
 {
-    if stay != 1 {
-        return pen;
-    }
-    let variable = field(t, pen, b"", top);
-    moving_line(t, lens, offs, variable, b" ", 1)
+    if b { 0 } else { 1 }
 }
 
-// The place of the task, where the same task is left there.
-fn task_stays(
-    t: &mut [u8],
-    lens: &mut [usize],
-    offs: &mut [usize],
-    pen: Pen,
-    top: u64,
-    task: u64,
-    bottom: u64,
-) -> Pen
-    requires { ⌜ Room 5 (cond (eqb bottom task) 1 0) (now t) (now lens) (now offs) pen × (top ≤ 64) × (task < 1000) ⌝ }
-    ensures { λ r. ⌜ Draws (now (t .entry)) (now (lens .entry)) (now (offs .entry)) pen (taskStays top task bottom) 5 (cond (eqb bottom task) 1 0) (now (t .exit)) (now (lens .exit)) (now (offs .exit)) r ⌝ }
+// How many lines prevail: those of a set's facts, and those of the stack that stay as they are.
+fn prevail_count(set: u64, stay: u64, task: u64, bottom: u64) -> u64
+    ensures { λ r. ⌜ r ≡ prevailCount (ones set) stay task bottom ⌝ }
+    ensures { λ r. ⌜ r ≤ mostFacts + 2 ⌝ }
 {
-    if bottom != task {
-        return pen;
-    }
-    let o = top as usize + 1;
-    let variable = moving(t, lens, offs, pen, b"", o);
-    field_line(t, variable, b" ", task)
+    let facts = listing::count(set);
+    let top = one_if(stay == 1);
+    let place = one_if(bottom == task);
+    facts + top + place
 }
 
-// The top, where it moves: none is left, or more than one.
-fn top_moves(
-    t: &mut [u8],
-    lens: &mut [usize],
-    offs: &mut [usize],
-    pen: Pen,
-    top: u64,
-    stay: u64,
-) -> Pen
-    requires { ⌜ Room 8 (cond (eqb stay 1) 0 2) (now t) (now lens) (now offs) pen × (top ≤ 64) × (stay ≤ 8) ⌝ }
-    ensures { λ r. ⌜ Draws (now (t .entry)) (now (lens .entry)) (now (offs .entry)) pen (topMoves top stay) 8 (cond (eqb stay 1) 0 2) (now (t .exit)) (now (lens .exit)) (now (offs .exit)) r ⌝ }
+// How many lines change something: the others, and one for each task but the last that is left.
+fn effect_count(set: u64, stay: u64, task: u64, bottom: u64) -> u64
+    requires { ⌜ stay ≤ mostSubtasks ⌝ }
+    ensures { λ r. ⌜ r ≡ effectCount (ones set) stay task bottom ⌝ }
+    ensures { λ r. ⌜ r ≤ mostFacts + 2 + mostSubtasks ⌝ }
 {
-    if stay == 1 {
-        return pen;
+    let facts = listing::count(set);
+    let top = none_if(stay == 1);
+    let place = none_if(bottom == task);
+    let lines = facts + top + place;
+    if stay == 0 {
+        return lines;
     }
-    let variable = field(t, pen, b"0 ", top);
-    let before = moving(t, lens, offs, variable, b" ", 1);
-    moving_line(t, lens, offs, before, b" ", stay as usize)
-}
-
-// The place of the task, where another is left there, or none.
-fn task_moves(
-    t: &mut [u8],
-    lens: &mut [usize],
-    offs: &mut [usize],
-    pen: Pen,
-    top: u64,
-    task: u64,
-    bottom: u64,
-) -> Pen
-    requires { ⌜ Room 11 (cond (eqb bottom task) 0 1) (now t) (now lens) (now offs) pen × (top ≤ 64) × (task < 1000) × (bottom < 1000) ⌝ }
-    ensures { λ r. ⌜ Draws (now (t .entry)) (now (lens .entry)) (now (offs .entry)) pen (taskMoves top task bottom) 11 (cond (eqb bottom task) 0 1) (now (t .exit)) (now (lens .exit)) (now (offs .exit)) r ⌝ }
-{
-    if bottom == task {
-        return pen;
-    }
-    let o = top as usize + 1;
-    let variable = moving(t, lens, offs, pen, b"0 ", o);
-    let before = field(t, variable, b" ", task);
-    field_line(t, before, b" ", bottom)
-}
-
-// A task that is left, j + 1 places above.
-fn push(
-    t: &mut [u8],
-    lens: &mut [usize],
-    offs: &mut [usize],
-    pen: Pen,
-    top: u64,
-    j: usize,
-    task: u64,
-) -> Pen
-    requires { ⌜ Room 10 1 (now t) (now lens) (now offs) pen × (top ≤ 64) × (j < 8) × (task < 1000) ⌝ }
-    ensures { λ r. ⌜ Draws (now (t .entry)) (now (lens .entry)) (now (offs .entry)) pen (λ p. effectLine (top + suc p + suc j) (bytes "-1") task) 10 1 (now (t .exit)) (now (lens .exit)) (now (offs .exit)) r ⌝ }
-{
-    let o = top as usize + j + 2;
-    let variable = moving(t, lens, offs, pen, b"0 ", o);
-    field_line(t, variable, b" -1 ", task)
-}
-
-// The tasks that are left, but the last: the cells have them from the second on.
-fn pushes(
-    t: &mut [u8],
-    lens: &mut [usize],
-    offs: &mut [usize],
-    pen: Pen,
-    top: u64,
-    stay: u64,
-    cells: &[u16],
-) -> Pen
-    requires { ⌜ Room 70 (stay - 1) (now t) (now lens) (now offs) pen × (top ≤ 64) × Tasks stay (now cells) ⌝ }
-    ensures { λ r. ⌜ Draws (now (t .entry)) (now (lens .entry)) (now (offs .entry)) pen (Pieces·pushes top (now (cells .entry)) stay) 70 (stay - 1) (now (t .exit)) (now (lens .exit)) (now (offs .exit)) r ⌝ }
-{
-    let mut next = pen;
-    let mut h: usize = 1;
-    while h < stay as usize {
-        let below = h - 1;
-        let task = cells[h] as u64;
-        next = push(t, lens, offs, next, top, below, task);
-        h += 1;
-    }
-    next
+    lines + (stay - 1)
 }
 
 // All lines that prevail.
@@ -275,14 +120,14 @@ fn prevails(
     task: u64,
     bottom: u64,
 ) -> Pen
-    requires { ⌜ Room 398 (prevailNumbers stay task bottom) (now t) (now lens) (now offs) pen × (top ≤ 64) × (task < 1000) ⌝ }
-    ensures { λ r. ⌜ Draws (now (t .entry)) (now (lens .entry)) (now (offs .entry)) pen (prevailText top (without needs dels) stay task bottom) 398 (prevailNumbers stay task bottom) (now (t .exit)) (now (lens .exit)) (now (offs .exit)) r ⌝ }
+    requires { ⌜ Room (prevailGroup top needs dels stay task bottom) (now t) (now lens) (now offs) pen × (top ≤ mostFacts) × (task < 1000) ⌝ }
+    ensures { λ r. ⌜ Draws (prevailGroup top needs dels stay task bottom) (now (t .entry)) (now (lens .entry)) (now (offs .entry)) pen (now (t .exit)) (now (lens .exit)) (now (offs .exit)) r ⌝ }
 {
-    let set = changes::kept(needs, dels);
-    let n = changes::prevail_count(set, stay, task, bottom);
-    let facts = kept_lines(t, pen, n, set, top);
-    let place = top_stays(t, lens, offs, facts, top, stay);
-    task_stays(t, lens, offs, place, top, task, bottom)
+    let set = listing::kept(needs, dels);
+    let n = prevail_count(set, stay, task, bottom);
+    let facts = fact_lines(t, pen, n, Says::Holds, top, set);
+    let place = stack_lines::top_stays(t, lens, offs, facts, top, stay);
+    stack_lines::task_stays(t, lens, offs, place, top, task, bottom)
 }
 
 // All lines that change something.
@@ -300,15 +145,15 @@ fn effects(
     bottom: u64,
     cells: &[u16],
 ) -> Pen
-    requires { ⌜ Room 797 (effectNumbers stay task bottom) (now t) (now lens) (now offs) pen × (top ≤ 64) × (task < 1000) × (bottom < 1000) × Tasks stay (now cells) ⌝ }
-    ensures { λ r. ⌜ Draws (now (t .entry)) (now (lens .entry)) (now (offs .entry)) pen (effectText top needs dels (bitOr dels (without adds needs)) stay task bottom (now (cells .entry))) 797 (effectNumbers stay task bottom) (now (t .exit)) (now (lens .exit)) (now (offs .exit)) r ⌝ }
+    requires { ⌜ Room (effectGroup top needs adds dels stay task bottom (now cells)) (now t) (now lens) (now offs) pen × (top ≤ mostFacts) × (task < 1000) × (bottom < 1000) × Tasks stay (now cells) ⌝ }
+    ensures { λ r. ⌜ Draws (effectGroup top needs adds dels stay task bottom (now (cells .entry))) (now (t .entry)) (now (lens .entry)) (now (offs .entry)) pen (now (t .exit)) (now (lens .exit)) (now (offs .exit)) r ⌝ }
 {
-    let set = changes::altered(needs, adds, dels);
-    let n = changes::effect_count(set, stay, task, bottom);
-    let facts = change_lines(t, pen, n, needs, dels, set, top);
-    let place = top_moves(t, lens, offs, facts, top, stay);
-    let above = task_moves(t, lens, offs, place, top, task, bottom);
-    pushes(t, lens, offs, above, top, stay, cells)
+    let set = listing::altered(needs, adds, dels);
+    let n = effect_count(set, stay, task, bottom);
+    let facts = fact_lines(t, pen, n, Says::Changes(needs, dels), top, set);
+    let place = stack_lines::top_moves(t, lens, offs, facts, top, stay);
+    let above = stack_lines::task_moves(t, lens, offs, place, top, task, bottom);
+    stack_lines::pushes(t, lens, offs, above, top, stay, cells)
 }
 
 // What stands in the place of the task: the last task that is left, or none.
@@ -335,10 +180,9 @@ pub fn compose(
     lens: &mut [usize],
     offs: &mut [usize],
 ) -> Pen
-    requires { ⌜ Fit top free k (now ops) (now cells) ⌝ }
-    requires { ⌜ (2112 ≤ length (now t)) × (12 ≤ length (now lens)) × (12 ≤ length (now offs)) ⌝ }
-    ensures { λ r. ⌜ Drawn (now (t .exit)) (now (lens .exit)) (now (offs .exit)) r (λ p. rowLines top free (letter ∷ digits k) (rowAt (now (ops .entry)) (now (cells .entry)) 0) (suc p)) ⌝ }
-    ensures { λ r. ⌜ (r .at + 3 * r .count ≤ 1408) × (length (now (t .exit)) ≡ length (now (t .entry))) ⌝ }
+    requires { ⌜ Fit top free k (now ops) (now cells) × Blank (now t) (now lens) (now offs) ⌝ }
+    ensures { λ r. ⌜ Drawn (now (t .exit)) (now (lens .exit)) (now (offs .exit)) r (rowText top free (letter ∷ digits k) (rowAt (now (ops .entry)) (now (cells .entry)) 0)) ⌝ }
+    ensures { λ r. ⌜ (r .at + 3 * r .count ≤ operatorBytes) × (length (now (t .exit)) ≡ length (now (t .entry))) ⌝ }
 {
     let needs = ops[0];
     let adds = ops[1];

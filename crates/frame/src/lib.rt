@@ -1,40 +1,40 @@
 // The sections that stand around the operators: preamble, variables, state and goal.
 ghost use mathlib.Core.Path.{_≡_};
 ghost use mathlib.Core.Bool.{cond};
+ghost use mathlib.Core.List.{_++_};
 ghost use Prim.Native.Nat.{_+_, _≤_, _<_};
 ghost use lib.ListN.{length};
 ghost use Rattle.basics.specs.Lists.{upto};
+ghost use Rattle.basics.specs.Texts.{digits};
+ghost use Rattle.version3.specs.Spelling.{wordLine, numberLine, preamble, spellVariable, middle};
+ghost use Rattle.rules.specs.Limits.{mostFacts, mostTasks, mostBound, mostSectionBytes};
 ghost use Rattle.rules.specs.Tables.{startFacts};
 ghost use Rattle.rules.specs.Facts.{has as Facts·has};
-ghost use Rattle.rules.specs.Sections.{variableCount, preamble, variable, factNames, heightNames, variableText, startValue, middle};
+ghost use Rattle.rules.specs.Problems.{variableCount, factNames, heightNames, startValue, problemOf};
+ghost use Rattle.laws.specs.Steps.{variableText};
 ghost use Rattle.words.specs.Words.{tableOf, Held};
 ghost use Rattle.text.specs.Appends.{Appends};
-ghost use Rattle.frame.specs.Frames.{numberLine, opening, positionNames, startLine, stateText, goalText};
+ghost use Rattle.frame.specs.Frames.{labelled, opening, variable, positionNames, startLine, stateText, goalText};
+ghost use Rattle.frame.specs.Sizes.{mostVariables, namesBytes, valuesBytes, stateBytes, goalBytes};
+use listing::Says;
 
 // Text, a number of at most three digits, a line feed.
 fn put_line(out: &mut [u8], at: usize, s: &[u8], n: u64) -> usize
     requires { ⌜ (at + length (now s) + 4 ≤ length (now out)) × (n < 1000) ⌝ }
-    ensures { λ r. ⌜ Appends (now (out .entry)) at (numberLine (now (s .entry)) n) (now (out .exit)) r ⌝ }
+    ensures { λ r. ⌜ Appends (now (out .entry)) at (labelled (now (s .entry)) n) (now (out .exit)) r ⌝ }
     ensures { λ r. ⌜ r ≤ at + length (now (s .entry)) + 4 ⌝ }
 {
     let next = text::put_field(out, at, s, n);
     text::put(out, next, b"\n")
 }
 
-fn variable_count(words: &[u64], bound: u64) -> u64
-    requires { ⌜ Held (now words) × (bound ≤ 64) ⌝ }
-    ensures { λ r. ⌜ r ≡ variableCount (tableOf (now (words .entry))) bound ⌝ }
-{
-    words::fact_count(words) + 1 + bound
-}
-
 // Version, metric, and how many variables there are.
 pub fn put_preamble(words: &[u64], bound: u64, out: &mut [u8], at: usize) -> usize
-    requires { ⌜ Held (now words) × (bound ≤ 64) × (at + 2048 ≤ length (now out)) ⌝ }
-    ensures { λ r. ⌜ Appends (now (out .entry)) at (preamble (tableOf (now (words .entry))) bound) (now (out .exit)) r ⌝ }
-    ensures { λ r. ⌜ r ≤ at + 2048 ⌝ }
+    requires { ⌜ Held (now words) × (bound ≤ mostBound) × (at + mostSectionBytes ≤ length (now out)) ⌝ }
+    ensures { λ r. ⌜ Appends (now (out .entry)) at (preamble (variableCount bound (tableOf (now (words .entry))))) (now (out .exit)) r ⌝ }
+    ensures { λ r. ⌜ r ≤ at + mostSectionBytes ⌝ }
 {
-    let count = variable_count(words, bound);
+    let count = problem::variable_count(words, bound);
     put_line(
         out,
         at,
@@ -55,9 +55,9 @@ fn put_opening(out: &mut [u8], at: usize, v: u64, values: u64) -> usize
 
 // The names that one text and the numbers below n give.
 fn put_names(out: &mut [u8], at: usize, s: &[u8], n: u64) -> usize
-    requires { ⌜ (at + 1792 ≤ length (now out)) × (length (now s) ≤ 3) × (n ≤ 256) ⌝ }
-    ensures { λ r. ⌜ Appends (now (out .entry)) at (upto (numberLine (now (s .entry))) n) (now (out .exit)) r ⌝ }
-    ensures { λ r. ⌜ r ≤ at + 1792 ⌝ }
+    requires { ⌜ (at + namesBytes ≤ length (now out)) × (length (now s) ≤ 3) × (n ≤ mostTasks) ⌝ }
+    ensures { λ r. ⌜ Appends (now (out .entry)) at (upto (labelled (now (s .entry))) n) (now (out .exit)) r ⌝ }
+    ensures { λ r. ⌜ r ≤ at + namesBytes ⌝ }
 {
     let mut next = at;
     for k in 0..n {
@@ -68,9 +68,9 @@ fn put_names(out: &mut [u8], at: usize, s: &[u8], n: u64) -> usize
 
 // Fact v: it holds, it doesn't.
 fn put_fact_variable(out: &mut [u8], at: usize, v: u64) -> usize
-    requires { ⌜ (at + 2048 ≤ length (now out)) × (v < 64) ⌝ }
-    ensures { λ r. ⌜ Appends (now (out .entry)) at (variable v (factNames v)) (now (out .exit)) r ⌝ }
-    ensures { λ r. ⌜ r ≤ at + 2048 ⌝ }
+    requires { ⌜ (at + mostSectionBytes ≤ length (now out)) × (v < mostFacts) ⌝ }
+    ensures { λ r. ⌜ Appends (now (out .entry)) at (spellVariable (variable v (factNames v))) (now (out .exit)) r ⌝ }
+    ensures { λ r. ⌜ r ≤ at + mostSectionBytes ⌝ }
 {
     let holds = put_opening(out, at, v, 2);
     let fails = put_line(out, holds, b"Atom f", v);
@@ -80,9 +80,9 @@ fn put_fact_variable(out: &mut [u8], at: usize, v: u64) -> usize
 
 // The top of the stack, a height for each value.
 fn put_top_variable(out: &mut [u8], at: usize, v: u64, bound: u64) -> usize
-    requires { ⌜ (at + 2048 ≤ length (now out)) × (v < 1000) × (bound ≤ 64) ⌝ }
-    ensures { λ r. ⌜ Appends (now (out .entry)) at (variable v (heightNames bound)) (now (out .exit)) r ⌝ }
-    ensures { λ r. ⌜ r ≤ at + 2048 ⌝ }
+    requires { ⌜ (at + mostSectionBytes ≤ length (now out)) × (v < 1000) × (bound ≤ mostBound) ⌝ }
+    ensures { λ r. ⌜ Appends (now (out .entry)) at (spellVariable (variable v (heightNames bound))) (now (out .exit)) r ⌝ }
+    ensures { λ r. ⌜ r ≤ at + mostSectionBytes ⌝ }
 {
     let heights = bound + 1;
     let names = put_opening(out, at, v, heights);
@@ -92,9 +92,9 @@ fn put_top_variable(out: &mut [u8], at: usize, v: u64, bound: u64) -> usize
 
 // A position of the stack, a task for each value and one more for none.
 fn put_position_variable(out: &mut [u8], at: usize, v: u64, tasks: u64) -> usize
-    requires { ⌜ (at + 2048 ≤ length (now out)) × (v < 1000) × (tasks ≤ 256) ⌝ }
-    ensures { λ r. ⌜ Appends (now (out .entry)) at (variable v (positionNames tasks)) (now (out .exit)) r ⌝ }
-    ensures { λ r. ⌜ r ≤ at + 2048 ⌝ }
+    requires { ⌜ (at + mostSectionBytes ≤ length (now out)) × (v < 1000) × (tasks ≤ mostTasks) ⌝ }
+    ensures { λ r. ⌜ Appends (now (out .entry)) at (spellVariable (variable v (positionNames tasks))) (now (out .exit)) r ⌝ }
+    ensures { λ r. ⌜ r ≤ at + mostSectionBytes ⌝ }
 {
     let names = put_opening(out, at, v, tasks + 1);
     let end = put_names(out, names, b"t", tasks);
@@ -103,9 +103,9 @@ fn put_position_variable(out: &mut [u8], at: usize, v: u64, tasks: u64) -> usize
 
 // Variable v: a fact, the top of the stack, or a position.
 pub fn put_variable(words: &[u64], bound: u64, v: u64, out: &mut [u8], at: usize) -> usize
-    requires { ⌜ Held (now words) × (bound ≤ 64) × (at + 2048 ≤ length (now out)) × (v < variableCount (tableOf (now words)) bound) ⌝ }
-    ensures { λ r. ⌜ Appends (now (out .entry)) at (variableText (tableOf (now (words .entry))) bound v) (now (out .exit)) r ⌝ }
-    ensures { λ r. ⌜ r ≤ at + 2048 ⌝ }
+    requires { ⌜ Held (now words) × (bound ≤ mostBound) × (at + mostSectionBytes ≤ length (now out)) × (v < variableCount bound (tableOf (now words))) ⌝ }
+    ensures { λ r. ⌜ Appends (now (out .entry)) at (variableText bound (tableOf (now (words .entry))) v) (now (out .exit)) r ⌝ }
+    ensures { λ r. ⌜ r ≤ at + mostSectionBytes ⌝ }
 {
     let facts = words::fact_count(words);
     if v < facts {
@@ -119,7 +119,7 @@ pub fn put_variable(words: &[u64], bound: u64, v: u64, out: &mut [u8], at: usize
 
 // 0 where fact v is a start fact, 1 where it is not.
 fn start_fact(words: &[u64], v: u64) -> u64
-    requires { ⌜ Held (now words) × (v < 64) ⌝ }
+    requires { ⌜ Held (now words) × (v < mostFacts) ⌝ }
     ensures { λ r. ⌜ r ≡ cond (Facts·has (startFacts (tableOf (now (words .entry)))) v) 0 1 ⌝ }
 {
     let init = words::start_facts(words);
@@ -156,9 +156,9 @@ fn put_value(words: &[u64], v: u64, out: &mut [u8], at: usize) -> usize
 
 // The start's lines of n variables.
 fn put_values(words: &[u64], n: u64, out: &mut [u8], at: usize) -> usize
-    requires { ⌜ Held (now words) × (n ≤ 129) × (at + 516 ≤ length (now out)) ⌝ }
+    requires { ⌜ Held (now words) × (n ≤ mostVariables) × (at + valuesBytes ≤ length (now out)) ⌝ }
     ensures { λ r. ⌜ Appends (now (out .entry)) at (upto (startLine (tableOf (now (words .entry)))) n) (now (out .exit)) r ⌝ }
-    ensures { λ r. ⌜ r ≤ at + 516 ⌝ }
+    ensures { λ r. ⌜ r ≤ at + valuesBytes ⌝ }
 {
     let mut next = at;
     for v in 0..n {
@@ -169,11 +169,11 @@ fn put_values(words: &[u64], n: u64, out: &mut [u8], at: usize) -> usize
 
 // No mutexes; what each variable is at the start.
 fn put_state(words: &[u64], bound: u64, out: &mut [u8], at: usize) -> usize
-    requires { ⌜ Held (now words) × (bound ≤ 64) × (at + 576 ≤ length (now out)) ⌝ }
-    ensures { λ r. ⌜ Appends (now (out .entry)) at (stateText (tableOf (now (words .entry))) bound) (now (out .exit)) r ⌝ }
-    ensures { λ r. ⌜ r ≤ at + 576 ⌝ }
+    requires { ⌜ Held (now words) × (bound ≤ mostBound) × (at + stateBytes ≤ length (now out)) ⌝ }
+    ensures { λ r. ⌜ Appends (now (out .entry)) at (stateText bound (tableOf (now (words .entry)))) (now (out .exit)) r ⌝ }
+    ensures { λ r. ⌜ r ≤ at + stateBytes ⌝ }
 {
-    let count = variable_count(words, bound);
+    let count = problem::variable_count(words, bound);
     let values = text::put(out, at, b"0\nbegin_state\n");
     let end = put_values(words, count, out, values);
     text::put(out, end, b"end_state\n")
@@ -181,24 +181,24 @@ fn put_state(words: &[u64], bound: u64, out: &mut [u8], at: usize) -> usize
 
 // The goal facts, then top 0.
 fn put_goal(words: &[u64], out: &mut [u8], at: usize) -> usize
-    requires { ⌜ Held (now words) × (at + 448 ≤ length (now out)) ⌝ }
+    requires { ⌜ Held (now words) × (at + goalBytes ≤ length (now out)) ⌝ }
     ensures { λ r. ⌜ Appends (now (out .entry)) at (goalText (tableOf (now (words .entry)))) (now (out .exit)) r ⌝ }
-    ensures { λ r. ⌜ r ≤ at + 448 ⌝ }
+    ensures { λ r. ⌜ r ≤ at + goalBytes ⌝ }
 {
     let facts = words::fact_count(words);
     let goal = words::goal_facts(words);
-    let count = u64::count_ones(goal) as u64 + 1;
+    let count = listing::count(goal) + 1;
     let lines = put_line(out, at, b"begin_goal\n", count);
-    let top = text::put_members(out, lines, goal, facts);
+    let top = listing::put_lines(out, lines, Says::Holds, goal, facts);
     let end = text::put_field(out, top, b"", facts);
     text::put(out, end, b" 0\nend_goal\n")
 }
 
 // State, goal, and how many operators there are.
 pub fn put_middle(words: &[u64], bound: u64, form: u64, out: &mut [u8], at: usize) -> usize
-    requires { ⌜ Held (now words) × (bound ≤ 64) × (at + 2048 ≤ length (now out)) ⌝ }
-    ensures { λ r. ⌜ Appends (now (out .entry)) at (middle bound form (tableOf (now (words .entry)))) (now (out .exit)) r ⌝ }
-    ensures { λ r. ⌜ r ≤ at + 2048 ⌝ }
+    requires { ⌜ Held (now words) × (bound ≤ mostBound) × (at + mostSectionBytes ≤ length (now out)) ⌝ }
+    ensures { λ r. ⌜ Appends (now (out .entry)) at (middle (problemOf bound form (tableOf (now (words .entry))))) (now (out .exit)) r ⌝ }
+    ensures { λ r. ⌜ r ≤ at + mostSectionBytes ⌝ }
 {
     let operators = operators::operator_count(words, bound, form);
     let goal = put_state(words, bound, out, at);

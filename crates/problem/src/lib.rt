@@ -2,17 +2,27 @@
 ghost use mathlib.Core.Path.{_≡_};
 ghost use Prim.Native.Nat.{_+_, _*_, _≤_};
 ghost use lib.ListN.{length};
+ghost use Rattle.rules.specs.Limits.{mostBound};
 ghost use Rattle.rules.specs.Tables.{actionCount};
+ghost use Rattle.rules.specs.Problems.{variableCount};
 ghost use Rattle.rules.specs.Sections.{sectionsOf};
 ghost use Rattle.words.specs.Words.{tableOf, Held};
 ghost use Rattle.problem.specs.Places.{IsFound};
 
+// How many variables there are: the facts, the top of the stack, and its positions.
+pub fn variable_count(words: &[u64], bound: u64) -> u64
+    requires { ⌜ Held (now words) × (bound ≤ mostBound) ⌝ }
+    ensures { λ r. ⌜ r ≡ variableCount bound (tableOf (now (words .entry))) ⌝ }
+{
+    words::fact_count(words) + 1 + bound
+}
+
 // How many sections there are: one, one for each variable, one, one for each operator, and one.
 pub fn section_count(words: &[u64], bound: u64, form: u64) -> u64
-    requires { ⌜ Held (now words) × (bound ≤ 64) ⌝ }
+    requires { ⌜ Held (now words) × (bound ≤ mostBound) ⌝ }
     ensures { λ r. ⌜ r ≡ length (sectionsOf bound form (tableOf (now (words .entry)))) ⌝ }
 {
-    let variables = words::fact_count(words) + 1 + bound;
+    let variables = variable_count(words, bound);
     let operators = operators::operator_count(words, bound, form);
     variables + operators + 3
 }
@@ -25,7 +35,7 @@ pub enum Found {
 
 // Operator n of those of the methods.
 fn method_at(words: &[u64], bound: u64, form: u64, n: u64) -> Found
-    requires { ⌜ Held (now words) × (bound ≤ 64) ⌝ }
+    requires { ⌜ Held (now words) × (bound ≤ mostBound) ⌝ }
     ensures { λ r. ⌜ IsFound bound form (tableOf (now (words .entry))) (actionCount (tableOf (now (words .entry))) * bound + n) r ⌝ }
 {
     let first = words::action_count(words) as usize;
@@ -46,7 +56,7 @@ fn method_at(words: &[u64], bound: u64, form: u64, n: u64) -> Found
 
 // Operator n of all.
 pub fn find(words: &[u64], bound: u64, form: u64, n: u64) -> Found
-    requires { ⌜ Held (now words) × (bound ≤ 64) × (1 ≤ bound) ⌝ }
+    requires { ⌜ Held (now words) × (bound ≤ mostBound) × (1 ≤ bound) ⌝ }
     ensures { λ r. ⌜ IsFound bound form (tableOf (now (words .entry))) n r ⌝ }
 {
     let actions = words::action_count(words) * bound;

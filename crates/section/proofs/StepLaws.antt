@@ -7,7 +7,7 @@ use lib.ListN.{length, getD}
 use Rattle.basics.specs.Lists.{upto}
 use Rattle.rules.specs.Tables.{Table, factCount, taskCount, actionCount, methodCount}
 use Rattle.rules.specs.Operators.{positions}
-use Rattle.rules.specs.Sections.{nameOf, operatorText}
+use Rattle.rules.specs.Problems.{nameOf}
 use Rattle.laws.specs.Valid.{Valid}
 use Rattle.laws.specs.Steps.{stepAt, stepText}
 use Rattle.laws.proofs.TextLaws.{upto-same}
@@ -16,8 +16,10 @@ use Rattle.template.specs.declared.Pen.{Pen}
 use Rattle.template.specs.Templates.{Drawn, rendered}
 use Rattle.template.proofs.TemplateLaws.{drawn-is}
 use Rattle.rows.specs.Rows.{Row, rowAt, rowOf}
-use Rattle.compose.specs.RowTexts.{Fit, rowLines}
-use Rattle.compose.proofs.FitLaws.{row-lines, row-fit}
+use Rattle.compose.specs.RowTexts.{Fit, rowText}
+use Rattle.section.specs.declared.Composed.{Composed}
+use Rattle.section.specs.Operators.{stepRow, stepOperator, IsComposed}
+use Rattle.compose.proofs.FitLaws.{row-text, row-fit}
 
 -- What is asked of a row, for another number, in words of the code.
 pub fit-as : {facts none top free : ℕ} (i k : ℕ) (ops cells : List ℕ) → top ≡ facts → free ≡ none → k < 1000 → Fit facts none i ops cells → Fit top free k ops cells
@@ -37,26 +39,26 @@ fit-as i k ops cells p q h x =
     })
 
 pub drawn-as : {facts none top free : ℕ} {label name s lens offs : List ℕ} {pen : Pen} (r : Row) → top ≡ facts → free ≡ none → label ≡ name
-    → Drawn s lens offs pen (λ p. rowLines top free label r (suc p)) → Drawn s lens offs pen (λ p. rowLines facts none name r (suc p))
-drawn-as r p q u d = drawn-is d (λ n. λ j. rowLines (p j) (q j) (u j) r (suc n))
+    → Drawn s lens offs pen (rowText top free label r) → Drawn s lens offs pen (rowText facts none name r)
+drawn-as r p q u d = drawn-is d (λ n. λ j. rowText (p j) (q j) (u j) r n)
 
 module _ (b f : ℕ) (t : Table) (i : ℕ) (ops cells : List ℕ) (e : rowAt ops cells 0 ≡ rowOf b f t (stepAt t i)) where
   pub step-fit : Valid t → i < actionCount t + methodCount t → length ops ≡ 4 → length cells ≡ 12 → Fit (factCount t) (taskCount t) i ops cells
   step-fit v l p q = row-fit b f t i i ops cells v l (omega (arith, v .head .actions, v .head .methods)) e (omega arith) (omega arith)
 
   -- Its highest position.
-  step-count : getD cells 11 0 ≡ positions b f t (stepAt t i)
+  pub step-count : getD cells 11 0 ≡ positions b f t (stepAt t i)
   step-count = ap (λ (r : Row). r .last) e
 
-  pub step-few : Valid t → i < actionCount t + methodCount t → getD cells 11 0 ≤ b
-  step-few v l = omega (arith, step-count, positions-low f t v i l b)
+  pub step-composed : {s lens offs : List ℕ} {pen : Pen} → Drawn s lens offs pen (stepRow t i (rowAt ops cells 0)) → Drawn s lens offs pen (stepOperator f t i)
+  step-composed d = drawn-is d (λ p. row-text b f t (stepAt t i) ops cells p e)
 
-  module _ {s lens offs : List ℕ} {pen : Pen} (d : Drawn s lens offs pen (λ p. rowLines (factCount t) (taskCount t) (nameOf (stepAt t i)) (rowAt ops cells 0) (suc p))) where
-    pub operator-drawn : (p : ℕ) → rendered s lens offs pen p ≡ operatorText f t (record { what = stepAt t i; at = suc p })
-    operator-drawn p = d .text p ∙ row-lines b f t (stepAt t i) ops cells (suc p) e
+module _ {b f : ℕ} {t : Table} {i : ℕ} {s lens offs : List ℕ} {r : Composed} (c : IsComposed b f t i s lens offs r) where
+  pub step-few : Valid t → i < actionCount t + methodCount t → r .count ≤ b
+  step-few v l = omega (arith, c .count, positions-low f t v i l b)
 
-    pub step-drawn : stepText b f t i ≡ upto (rendered s lens offs pen) (getD cells 11 0)
-    unfolding stepText
-    step-drawn =
-        ap (upto (λ p. operatorText f t (record { what = stepAt t i; at = suc p }))) (sym step-count)
-        ∙ upto-same _ _ (getD cells 11 0) (λ p l. sym (operator-drawn p))
+  pub step-drawn : stepText b f t i ≡ upto (rendered s lens offs (r .pen)) (r .count)
+  unfolding stepText
+  step-drawn =
+      ap (upto (stepOperator f t i)) (sym (c .count))
+      ∙ upto-same (stepOperator f t i) (rendered s lens offs (r .pen)) (r .count) (λ p l. sym (c .drawn .text p))

@@ -14,6 +14,7 @@ use Rattle.laws.proofs.TextLaws.{upto-more, upto-same}
 use Rattle.text.specs.Appends.{Appends}
 use Rattle.text.proofs.AppendLaws.{_▸_, appends-is, drop-take}
 use Rattle.template.specs.declared.Pen.{Pen}
+use Rattle.template.specs.Sizes.{mostOffset}
 use Rattle.template.specs.Templates.{Sound, Drawn, startOf, turn, rendered}
 
 ends : (lens : List ℕ) (c j : ℕ) → j < c → startOf lens j + getD lens j 0 ≤ startOf lens c
@@ -101,7 +102,7 @@ start-set lens i v j h =
 
 -- A number after what is drawn: the segment ends.
 pub drawn-number : {t lens offs : List ℕ} {pen : Pen} {x : ℕ → List ℕ} (o : ℕ)
-    → o ≤ 448 → pen .count < length lens → pen .count < length offs → Drawn t lens offs pen x
+    → o ≤ mostOffset → pen .count < length lens → pen .count < length offs → Drawn t lens offs pen x
     → Drawn t (set lens (pen .count) (pen .at - pen .from)) (set offs (pen .count) o) (record { at = pen .at; from = pen .at; count = pen .count + 1 }) (λ p. x p ++ digits (p + o))
 unfolding rendered turn
 drawn-number {t} {lens} {offs} {pen} {x} o most h k d =

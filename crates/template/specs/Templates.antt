@@ -7,6 +7,7 @@ use lib.ListN.{length, take, drop, getD}
 use Rattle.basics.specs.Lists.{upto, sumTo}
 use Rattle.basics.specs.Texts.{digits}
 use Rattle.template.specs.declared.Pen.{Pen}
+use Rattle.template.specs.Sizes.{mostOffset, mostNumbers, templateBytes}
 
 -- Where segment j begins: the lengths of those before it.
 abbrev pub startOf : List ℕ → ℕ → ℕ
@@ -27,9 +28,15 @@ pub record Sound (t lens offs : List ℕ) (pen : Pen) : Type 0 where
   pub fits : pen .at ≤ length t
   pub lengths : pen .count ≤ length lens
   pub offsets : pen .count ≤ length offs
-  pub low : (j : ℕ) → j < pen .count → getD offs j 0 ≤ 448
+  pub low : (j : ℕ) → j < pen .count → getD offs j 0 ≤ mostOffset
 
 -- What has been drawn says x p at each position p.
 pub record Drawn (t lens offs : List ℕ) (pen : Pen) (x : ℕ → List ℕ) : Type 0 where
   pub sound : Sound t lens offs pen
   pub text : (p : ℕ) → rendered t lens offs pen p ≡ x p
+
+-- Memory for a template: for its text, and for the lengths and offsets of its numbers.
+pub record Blank (t lens offs : List ℕ) : Type 0 where
+  pub text : templateBytes ≤ length t
+  pub lengths : mostNumbers ≤ length lens
+  pub offsets : mostNumbers ≤ length offs

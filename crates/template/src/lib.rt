@@ -1,14 +1,38 @@
-// Text that is composed once and rendered at each position. Writers here move 32 bytes at a time, so they may also change up
-// to 32 bytes after what they write.
+// Text that is composed once and rendered at each position. Writers here move a chunk of bytes at a time, so they may also
+// change as many bytes after what they write.
 ghost use mathlib.Core.Path.{_≡_};
 ghost use mathlib.Core.List.{List, [], _∷_, _++_};
 ghost use Prim.Native.Nat.{ℕ, _+_, _*_, _-_, _≤_, _<_};
 ghost use lib.ListN.{length, take, drop};
 ghost use Rattle.basics.specs.Lists.{upto};
 ghost use Rattle.basics.specs.Texts.{digits};
+ghost use Rattle.rules.specs.Limits.{mostBound};
 ghost use Rattle.text.specs.Appends.{Appends};
+ghost use Rattle.template.specs.Sizes.{chunk, margin, mostOffset, figureCount, figureBytes, operatorBytes};
 ghost use Rattle.template.specs.Figures.{Figures, figure};
 ghost use Rattle.template.specs.Templates.{Sound, Drawn, rendered};
+use rules::limits::MOST_BOUND;
+
+// Sizes, with the names that specs/Sizes has for them.
+pub const CHUNK: usize = 32;
+
+const STRIDE: usize = 30;
+
+pub const MARGIN: usize = 2 * CHUNK;
+
+pub const MOST_OFFSET: usize = 448;
+
+pub const FIGURE_COUNT: usize = MOST_OFFSET + MOST_BOUND as usize;
+
+pub const FIGURE_BYTES: usize = 4 * FIGURE_COUNT;
+
+pub const MOST_NUMBERS: usize = 12;
+
+pub const OPERATOR_BYTES: usize = 1408;
+
+pub const TEMPLATE_BYTES: usize = OPERATOR_BYTES + MARGIN;
+
+pub const STEP_BYTES: usize = OPERATOR_BYTES * MOST_BOUND as usize;
 
 // Where a template is being written: the next byte, where the open segment begins, and how many numbers stand before it.
 pub struct Pen {
@@ -17,29 +41,29 @@ pub struct Pen {
     pub count: usize,
 }
 
-// 32 bytes of s from `from` on; by way of an array of known size they become wide moves.
+// A chunk of s from `from` on; by way of an array of known size they become wide moves.
 fn put_chunk(out: &mut [u8], at: usize, s: &[u8], from: usize)
-    requires { ⌜ (at + 32 ≤ length (now out)) × (from + 32 ≤ length (now s)) ⌝ }
-    ensures { λ _. ⌜ Appends (now (out .entry)) at (take 32 (drop from (now (s .entry)))) (now (out .exit)) (at + 32) ⌝ }
+    requires { ⌜ (at + chunk ≤ length (now out)) × (from + chunk ≤ length (now s)) ⌝ }
+    ensures { λ _. ⌜ Appends (now (out .entry)) at (take chunk (drop from (now (s .entry)))) (now (out .exit)) (at + chunk) ⌝ }
 {
-    let end = from + 32;
-    let mut chunk = [0u8; 32];
+    let end = from + CHUNK;
+    let mut chunk = [0u8; CHUNK];
     text::copy(&mut chunk, 0, &s[from..end]);
     text::copy(out, at, &chunk);
 }
 
-// The n bytes of s from `from` on. Most parts are short, so the first chunk is put untested. A chunk at every 32nd byte would
+// The n bytes of s from `from` on. Most parts are short, so the first chunk is put untested. Chunks that do not overlap would
 // become a call of memcpy, which costs more.
 fn put_part(out: &mut [u8], at: usize, s: &[u8], from: usize, n: usize) -> usize
-    requires { ⌜ (at + n + 32 ≤ length (now out)) × (from + n + 32 ≤ length (now s)) ⌝ }
+    requires { ⌜ (at + n + chunk ≤ length (now out)) × (from + n + chunk ≤ length (now s)) ⌝ }
     ensures { λ r. ⌜ Appends (now (out .entry)) at (take n (drop from (now (s .entry)))) (now (out .exit)) r ⌝ }
     ensures { λ r. ⌜ r ≡ at + n ⌝ }
 {
     put_chunk(out, at, s, from);
-    let mut k = 30;
+    let mut k = STRIDE;
     while k < n {
         put_chunk(out, at + k, s, from + k);
-        k += 30;
+        k += STRIDE;
     }
     at + n
 }
@@ -61,7 +85,7 @@ fn put_four(out: &mut [u8], at: usize, a: u8, b: u8, c: u8, d: u8) -> usize
 
 // n in decimal, all four bytes of its figure; the fourth says how many of them count.
 fn put_figure(out: &mut [u8], at: usize, figures: &[u8], n: usize) -> usize
-    requires { ⌜ (at + 4 ≤ length (now out)) × (n < 512) × Figures (now figures) 512 ⌝ }
+    requires { ⌜ (at + 4 ≤ length (now out)) × (n < figureCount) × Figures (now figures) figureCount ⌝ }
     ensures { λ r. ⌜ Appends (now (out .entry)) at (digits n) (now (out .exit)) r ⌝ }
     ensures { λ r. ⌜ r ≤ at + 3 ⌝ }
 {
@@ -75,7 +99,7 @@ fn ascii(n: usize) -> u8
     requires { ⌜ n < 10 ⌝ }
     ensures { λ r. ⌜ r ≡ 48 + n ⌝ }
 {
-    48 + n as u8
+    b'0' + n as u8
 }
 
 fn fill_figure(figures: &mut [u8], at: usize, n: usize) -> usize
@@ -100,18 +124,18 @@ fn fill_figure(figures: &mut [u8], at: usize, n: usize) -> usize
 }
 
 pub fn fill_figures(figures: &mut [u8])
-    requires { ⌜ 2048 ≤ length (now figures) ⌝ }
-    ensures { λ _. ⌜ Figures (now (figures .exit)) 512 ⌝ }
+    requires { ⌜ figureBytes ≤ length (now figures) ⌝ }
+    ensures { λ _. ⌜ Figures (now (figures .exit)) figureCount ⌝ }
 {
     let mut at = 0;
-    for n in 0..512 {
+    for n in 0..FIGURE_COUNT {
         at = fill_figure(figures, at, n);
     }
 }
 
 // The segment ends here, and the position plus o stands after it.
 pub fn number(lens: &mut [usize], offs: &mut [usize], pen: Pen, o: usize) -> Pen
-    requires { ⌜ (pen .from ≤ pen .at) × (pen .count < length (now lens)) × (pen .count < length (now offs)) × (o ≤ 448) ⌝ }
+    requires { ⌜ (pen .from ≤ pen .at) × (pen .count < length (now lens)) × (pen .count < length (now offs)) × (o ≤ mostOffset) ⌝ }
     ensures { λ r. ⌜ ((t : List ℕ) (x : ℕ → List ℕ) → Drawn t (now (lens .entry)) (now (offs .entry)) pen x → Drawn t (now (lens .exit)) (now (offs .exit)) r (λ p. x p ++ digits (p + o))) ⌝ }
     ensures { λ r. ⌜ (r .at ≡ pen .at) × (r .from ≡ pen .at) × (r .count ≡ pen .count + 1) ⌝ }
     ensures { λ _. ⌜ (length (now (lens .exit)) ≡ length (now (lens .entry))) × (length (now (offs .exit)) ≡ length (now (offs .entry))) ⌝ }
@@ -138,8 +162,8 @@ pub fn put_rendered(
     pen: Pen,
     p: usize,
 ) -> usize
-    requires { ⌜ Sound (now t) (now lens) (now offs) pen × (pen .at + 64 ≤ length (now t)) × (p < 64) × Figures (now figures) 512 ⌝ }
-    requires { ⌜ at + pen .at + 3 * pen .count + 64 ≤ length (now out) ⌝ }
+    requires { ⌜ Sound (now t) (now lens) (now offs) pen × (pen .at + margin ≤ length (now t)) × (p < mostBound) × Figures (now figures) figureCount ⌝ }
+    requires { ⌜ at + pen .at + 3 * pen .count + margin ≤ length (now out) ⌝ }
     ensures { λ r. ⌜ Appends (now (out .entry)) at (rendered (now (t .entry)) (now (lens .entry)) (now (offs .entry)) pen p) (now (out .exit)) r ⌝ }
     ensures { λ r. ⌜ r ≤ at + pen .at + 3 * pen .count ⌝ }
 {
@@ -167,10 +191,10 @@ pub fn put_positions(
     pen: Pen,
     n: usize,
 ) -> usize
-    requires { ⌜ Sound (now t) (now lens) (now offs) pen × (pen .at + 64 ≤ length (now t)) × Figures (now figures) 512 ⌝ }
-    requires { ⌜ (pen .at + 3 * pen .count ≤ 1408) × (n ≤ 64) × (at + 1408 * n + 64 ≤ length (now out)) ⌝ }
+    requires { ⌜ Sound (now t) (now lens) (now offs) pen × (pen .at + margin ≤ length (now t)) × Figures (now figures) figureCount ⌝ }
+    requires { ⌜ (pen .at + 3 * pen .count ≤ operatorBytes) × (n ≤ mostBound) × (at + operatorBytes * n + margin ≤ length (now out)) ⌝ }
     ensures { λ r. ⌜ Appends (now (out .entry)) at (upto (rendered (now (t .entry)) (now (lens .entry)) (now (offs .entry)) pen) n) (now (out .exit)) r ⌝ }
-    ensures { λ r. ⌜ r ≤ at + 1408 * n ⌝ }
+    ensures { λ r. ⌜ r ≤ at + operatorBytes * n ⌝ }
 {
     let mut next = at;
     for p in 0..n {

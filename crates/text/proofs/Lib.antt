@@ -1,2 +1,1 @@
 pub mod AppendLaws
-mod FactLines

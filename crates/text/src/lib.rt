@@ -1,15 +1,11 @@
 // Bytes, decimal numbers and lines, each written at a place in text that is lent; the place after it is handed back.
 ghost use mathlib.Core.Path.{_≡_};
-ghost use mathlib.Core.List.{map, _++_};
+ghost use mathlib.Core.List.{_++_};
 ghost use Prim.Native.Nat.{_+_, _≤_, _<_};
 ghost use lib.ListN.{length};
 ghost use lib.Seq.{sets};
-ghost use Rattle.basics.specs.Lists.{concat};
-ghost use Rattle.rules.specs.Facts.{membersOf};
 ghost use Rattle.basics.specs.Texts.{digits};
-ghost use Rattle.rules.specs.Sections.{valueLine};
 ghost use Rattle.text.specs.Appends.{Appends};
-ghost use Rattle.text.specs.Members.{memberLine};
 
 // Bytes that are known to fit; nothing else changes.
 pub fn copy(out: &mut [u8], at: usize, s: &[u8])
@@ -36,7 +32,7 @@ fn put_digits(out: &mut [u8], at: usize, n: u64) -> usize
     requires { ⌜ at + length (digits n) ≤ length (now out) ⌝ }
     ensures { λ r. ⌜ Appends (now (out .entry)) at (digits n) (now (out .exit)) r ⌝ }
 {
-    let last = 48 + (n % 10) as u8;
+    let last = b'0' + (n % 10) as u8;
     if n < 10 {
         out[at] = last;
         return at + 1;
@@ -63,30 +59,4 @@ pub fn put_field(out: &mut [u8], at: usize, s: &[u8], n: u64) -> usize
 {
     let next = put(out, at, s);
     put_digits(out, next, n)
-}
-
-// The line that says that fact k holds, where the set has it.
-fn put_member(out: &mut [u8], at: usize, set: u64, k: u64) -> usize
-    requires { ⌜ (at + 6 ≤ length (now out)) × (k < 64) ⌝ }
-    ensures { λ r. ⌜ Appends (now (out .entry)) at (memberLine set k) (now (out .exit)) r ⌝ }
-    ensures { λ r. ⌜ r ≤ at + 6 ⌝ }
-{
-    if facts::has(set, k) {
-        let next = put_field(out, at, b"", k);
-        return put(out, next, b" 0\n");
-    }
-    at
-}
-
-// The lines that say that the facts of a set hold, of n facts in all.
-pub fn put_members(out: &mut [u8], at: usize, set: u64, n: u64) -> usize
-    requires { ⌜ (at + 384 ≤ length (now out)) × (n ≤ 64) ⌝ }
-    ensures { λ r. ⌜ Appends (now (out .entry)) at (concat (map (λ k. valueLine k 0) (membersOf n set))) (now (out .exit)) r ⌝ }
-    ensures { λ r. ⌜ r ≤ at + 384 ⌝ }
-{
-    let mut next = at;
-    for k in 0..n {
-        next = put_member(out, next, set, k);
-    }
-    next
 }

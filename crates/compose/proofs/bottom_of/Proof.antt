@@ -1,6 +1,6 @@
 use borrow.Author.Needs.{needs}
 use native.Mathlib.Omega.{arith}
-use Rattle.compose.proofs.LineLaws.{bottom-none, bottom-last}
+use Rattle.compose.proofs.GroupLaws.{bottom-none, bottom-last}
 use Rattle.compose.proofs.bottom_of.Statement.{statement}
 use Rattle.compose.proofs.bottom_of.Tie as tie
 

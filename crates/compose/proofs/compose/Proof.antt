@@ -1,11 +1,11 @@
-use mathlib.Core.List.{[], _∷_}
+use Prim.Native.Nat.{zero-le}
+use mathlib.Core.List.{[]}
 use native.Mathlib.Omega.{arith}
-use Rattle.basics.specs.Texts.{digits}
 use Rattle.template.proofs.TemplateLaws.{drawn-none, drawn-is}
 use Rattle.rows.specs.Rows.{rowAt}
 use Rattle.compose.specs.RowTexts.{setsOf}
-use Rattle.compose.proofs.DrawLaws.{_▹_, space-after, room-less, room-after, room-all}
-use Rattle.compose.proofs.LineLaws.{operator-cut, few-numbers, kept-low, altered-low, tasks-fit}
+use Rattle.drawing.proofs.DrawLaws.{_▹_, space-after, room-less, room-after}
+use Rattle.compose.proofs.GroupLaws.{operator-cut, few-numbers, room-all, kept-low, altered-low, tasks-fit}
 use lib.ListN.{getD}
 use Rattle.compose.proofs.compose.Statement.{statement}
 use Rattle.compose.proofs.compose.Tie as tie
@@ -42,8 +42,7 @@ bottom-of-requires c κs =
 opening-requires : tie.Need-opening-requires
 opening-requires c κs =
     let s = c .before .before .before .before .before .before .before .before .before .before .before .before .before .before .before in
-    let a = s .args in
-    (room-less (room-all (a .t .now) (a .lens .now) (a .offs .now) (s .pre .1)) (omega arith) (omega arith), s .pre .0 .number)
+    (room-less (room-all 0 0 0 zero-le (s .pre .1)) (omega arith) (omega arith), s .pre .0 .number)
 
 prevails-requires : tie.Need-prevails-requires
 prevails-requires c κs =
@@ -52,8 +51,8 @@ prevails-requires c κs =
     let s = b .before .before .before .before .before .before .before .before .before .before .before .before in
     let a = s .args in
     let f = s .pre .0 in
-    let n = few-numbers (getD (a .cells .now) 9 0) (getD (a .cells .now) 8 0) (b .bottom-of .result) (f .stay) in
-    (room-after (room-all (a .t .now) (a .lens .now) (a .offs .now) (s .pre .1)) (o .opening .ensures) (omega arith) (omega (arith, n)), f .facts, f .task)
+    let room = room-all (getD (a .cells .now) 9 0) (getD (a .cells .now) 8 0) (b .bottom-of .result) (f .stay) (s .pre .1) in
+    (room-after room (o .opening .ensures) (omega arith) (omega arith), f .facts, f .task)
 
 effects-requires : tie.Need-effects-requires
 effects-requires c κs =
@@ -63,8 +62,8 @@ effects-requires c κs =
     let s = b .before .before .before .before .before .before .before .before .before .before .before .before in
     let a = s .args in
     let f = s .pre .0 in
-    let n = few-numbers (getD (a .cells .now) 9 0) (getD (a .cells .now) 8 0) (b .bottom-of .result) (f .stay) in (
-      room-after (room-all (a .t .now) (a .lens .now) (a .offs .now) (s .pre .1)) (o .opening .ensures ▹ p .prevails .ensures) (omega arith) (omega (arith, n)),
+    let room = room-all (getD (a .cells .now) 9 0) (getD (a .cells .now) 8 0) (b .bottom-of .result) (f .stay) (s .pre .1) in (
+      room-after room (o .opening .ensures ▹ p .prevails .ensures) (omega arith) (omega arith),
       f .facts,
       f .task,
       b .bottom-of .ensures .1,
@@ -77,8 +76,7 @@ ending-requires c κs =
     let p = e .before .before .before .before .before .before .before .before .before .before in
     let o = p .before .before .before .before .before .before .before .before .before .before in
     let s = o .before .before .before .before .before .before .before .before .before .before .before .before .before .before .before .before in
-    let a = s .args in
-    space-after (room-all (a .t .now) (a .lens .now) (a .offs .now) (s .pre .1) .space) (o .opening .ensures ▹ p .prevails .ensures ▹ e .effects .ensures) (omega arith)
+    space-after (room-all 0 0 0 zero-le (s .pre .1) .space) (o .opening .ensures ▹ p .prevails .ensures ▹ e .effects .ensures) (omega arith)
 
 same-length : tie.Need-same-length
 same-length c =
@@ -114,7 +112,7 @@ returns c =
     let bottom = b .bottom-of in
     let n = few-numbers stay (row .task) (bottom .result) (f .stay) in (
       drawn-is (d .drawn (λ p. []) (drawn-none (a .t .now) (a .lens .now) (a .offs .now)))
-          (λ p. operator-cut (a .top) (a .free) (setsOf row) (row .task) (a .cells .now) stay p (bottom .result) (bottom .ensures .0) (a .letter ∷ digits (a .k)) (row .cost) (kept-low f) (altered-low f)),
+          (λ p. operator-cut (a .top) (a .free) (setsOf row) (row .task) (a .cells .now) stay p (bottom .result) (bottom .ensures .0) (a .letter) (a .k) (row .cost) (kept-low f) (altered-low f)),
       (omega (arith, d .most, d .count, n), d .size),
     )
 

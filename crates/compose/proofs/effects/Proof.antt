@@ -1,7 +1,15 @@
 use borrow.Author.Needs.{needs}
 use native.Mathlib.Omega.{arith}
-use Rattle.compose.proofs.DrawLaws.{_▹_, draws-is, space-less, room-after}
-use Rattle.compose.proofs.PieceLaws.{effect-group}
+use Rattle.drawing.proofs.DrawLaws.{_▹_, draws-is, space-less, room-after}
+use Prim.Native.Nat.{ℕ}
+use mathlib.Core.Path.{ap, _∙_}
+use lib.Bits.{bitOr}
+use lib.Count.{ones}
+use Rattle.rules.specs.Facts.{without}
+use Rattle.listing.specs.declared.Says.the-variants.{Changes}
+use Rattle.drawing.specs.Draws.{Draws}
+use Rattle.compose.specs.Groups.{factLines, effectCount}
+use Rattle.compose.proofs.GroupLaws.{facts-as}
 use Rattle.compose.proofs.effects.Statement.{statement}
 use Rattle.compose.proofs.effects.Tie as tie
 
@@ -11,8 +19,8 @@ altered-requires c κs = search needs
 effect-count-requires : tie.Need-effect-count-requires
 effect-count-requires c κs = c .before .before .before .before .before .pre .4 .few
 
-change-lines-requires : tie.Need-change-lines-requires
-change-lines-requires c κs =
+fact-lines-requires : tie.Need-fact-lines-requires
+fact-lines-requires c κs =
     let n = c .before in
     let s = n .before .before .before .before .before .before .pre in
     (space-less (s .0 .space) (omega arith), omega (arith, n .effect-count .ensures .1), s .1)
@@ -21,14 +29,14 @@ top-moves-requires : tie.Need-top-moves-requires
 top-moves-requires c κs =
     let f = c .before .before .before .before .before in
     let s = f .before .before .before .before .before .before .before .before .pre in
-    (room-after (s .0) (f .change-lines .ensures _ _) (omega arith) (omega arith), s .1, s .4 .few)
+    (room-after (s .0) (f .fact-lines .ensures _ _) (omega arith) (omega arith), s .1, s .4 .few)
 
 task-moves-requires : tie.Need-task-moves-requires
 task-moves-requires c κs =
     let h = c .before .before .before .before .before .before .before .before .before in
     let f = h .before .before .before .before .before .before in
     let s = f .before .before .before .before .before .before .before .before .pre in
-    (room-after (s .0) (f .change-lines .ensures _ _ ▹ h .top-moves .ensures) (omega arith) (omega arith), s .1, s .2, s .3)
+    (room-after (s .0) (f .fact-lines .ensures _ _ ▹ h .top-moves .ensures) (omega arith) (omega arith), s .1, s .2, s .3)
 
 pushes-requires : tie.Need-pushes-requires
 pushes-requires c κs =
@@ -36,14 +44,14 @@ pushes-requires c κs =
     let h = w .before .before .before .before .before .before .before .before .before .before in
     let f = h .before .before .before .before .before .before in
     let s = f .before .before .before .before .before .before .before .before .pre in
-    (room-after (s .0) (f .change-lines .ensures _ _ ▹ h .top-moves .ensures ▹ w .task-moves .ensures) (omega arith) (omega arith), s .1, s .4)
+    (room-after (s .0) (f .fact-lines .ensures _ _ ▹ h .top-moves .ensures ▹ w .task-moves .ensures) (omega arith) (omega arith), s .1, s .4)
 
 same-length : tie.Need-same-length
 same-length c =
     let p = c .before .before .before .before .before .before in
     let w = p .before .before .before .before .before .before .before .before .before .before in
     let h = w .before .before .before .before .before .before .before .before .before .before in
-    (h .before .before .before .before .before .before .change-lines .ensures _ _ ▹ h .top-moves .ensures ▹ w .task-moves .ensures ▹ p .pushes .ensures) .size
+    (h .before .before .before .before .before .before .fact-lines .ensures _ _ ▹ h .top-moves .ensures ▹ w .task-moves .ensures ▹ p .pushes .ensures) .size
 
 same-length-2 : tie.Need-same-length-2
 same-length-2 c = search needs
@@ -60,9 +68,12 @@ returns c =
     let n = f .before .before in
     let k = n .before in
     let a = k .before .before .before .before .before .args in
+    let set = bitOr (a .dels) (without (a .adds) (a .needs)) in
+    let facts : Draws (factLines (effectCount (ones set) (a .stay) (a .task) (a .bottom)) (Changes (a .needs) (a .dels)) (a .top) set) _ _ _ _ _ _ _ _ =
     draws-is (omega arith) (omega arith)
-    (effect-group (a .top) _ (a .needs) (a .dels) _ _ (a .stay) (a .task) (a .bottom) (a .cells .now) (n .effect-count .ensures .0) (k .altered .ensures))
-    (f .change-lines .ensures _ _ ▹ h .top-moves .ensures ▹ w .task-moves .ensures ▹ p .pushes .ensures)
+    (λ p. facts-as (Changes (a .needs) (a .dels)) (a .top) (n .effect-count .ensures .0 ∙ ap (λ (s : ℕ). effectCount (ones s) (a .stay) (a .task) (a .bottom)) (k .altered .ensures)) (k .altered .ensures))
+    (f .fact-lines .ensures _ _) in
+    facts ▹ h .top-moves .ensures ▹ w .task-moves .ensures ▹ p .pushes .ensures
 
 pub effects-spec : {M : Type 1} → statement M
 effects-spec =
@@ -70,7 +81,7 @@ effects-spec =
     (tie.spec
     altered-requires
     effect-count-requires
-    change-lines-requires
+    fact-lines-requires
     top-moves-requires
     task-moves-requires
     pushes-requires

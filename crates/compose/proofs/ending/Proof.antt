@@ -1,8 +1,8 @@
 use borrow.Author.Needs.{needs}
 use native.Mathlib.Omega.{arith}
 use Rattle.text.proofs.AppendLaws.{_▸_, appends-is}
-use Rattle.compose.proofs.DrawLaws.{draws-text}
-use Rattle.compose.proofs.PieceLaws.{ending-words}
+use Rattle.drawing.proofs.DrawLaws.{draws-text}
+use Rattle.compose.proofs.GroupLaws.{ending-words}
 use Rattle.compose.proofs.ending.Statement.{statement}
 use Rattle.compose.proofs.ending.Tie as tie
 

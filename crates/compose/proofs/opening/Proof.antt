@@ -1,8 +1,8 @@
 use borrow.Author.Needs.{needs}
 use mathlib.Core.List.{[]}
 use native.Mathlib.Omega.{arith}
-use Rattle.compose.proofs.DrawLaws.{_▹_, draws-is, space-less, space-after, room-after}
-use Rattle.compose.proofs.PieceLaws.{opening-words}
+use Rattle.drawing.proofs.DrawLaws.{_▹_, draws-is, space-less, space-after, room-after}
+use Rattle.compose.proofs.GroupLaws.{opening-words}
 use Rattle.compose.proofs.opening.Statement.{statement}
 use Rattle.compose.proofs.opening.Tie as tie
 

@@ -1,7 +1,14 @@
 use borrow.Author.Needs.{needs}
 use native.Mathlib.Omega.{arith}
-use Rattle.compose.proofs.PieceLaws.{prevail-group}
-use Rattle.compose.proofs.DrawLaws.{_▹_, draws-is, space-less, room-after}
+use Prim.Native.Nat.{ℕ}
+use mathlib.Core.Path.{ap, _∙_}
+use lib.Count.{ones}
+use Rattle.rules.specs.Facts.{without}
+use Rattle.listing.specs.declared.Says.the-variants.{Holds}
+use Rattle.drawing.specs.Draws.{Draws}
+use Rattle.compose.specs.Groups.{factLines, prevailCount}
+use Rattle.compose.proofs.GroupLaws.{facts-as}
+use Rattle.drawing.proofs.DrawLaws.{_▹_, draws-is, space-less, room-after}
 use Rattle.compose.proofs.prevails.Statement.{statement}
 use Rattle.compose.proofs.prevails.Tie as tie
 
@@ -11,8 +18,8 @@ kept-requires c κs = search needs
 prevail-count-requires : tie.Need-prevail-count-requires
 prevail-count-requires c κs = search needs
 
-kept-lines-requires : tie.Need-kept-lines-requires
-kept-lines-requires c κs =
+fact-lines-requires : tie.Need-fact-lines-requires
+fact-lines-requires c κs =
     let n = c .before in
     let s = n .before .before .before .before .before .pre in
     (space-less (s .0 .space) (omega arith), omega (arith, n .prevail-count .ensures .1), s .1)
@@ -21,14 +28,14 @@ top-stays-requires : tie.Need-top-stays-requires
 top-stays-requires c κs =
     let f = c .before .before .before .before .before in
     let s = f .before .before .before .before .before .before .before .pre in
-    (room-after (s .0) (f .kept-lines .ensures _ _) (omega arith) (omega arith), s .1)
+    (room-after (s .0) (f .fact-lines .ensures _ _) (omega arith) (omega arith), s .1)
 
 task-stays-requires : tie.Need-task-stays-requires
 task-stays-requires c κs =
     let h = c .before .before .before .before .before .before .before .before .before in
     let f = h .before .before .before .before .before .before in
     let s = f .before .before .before .before .before .before .before .pre in
-    (room-after (s .0) (f .kept-lines .ensures _ _ ▹ h .top-stays .ensures) (omega arith) (omega arith), s .1, s .2)
+    (room-after (s .0) (f .fact-lines .ensures _ _ ▹ h .top-stays .ensures) (omega arith) (omega arith), s .1, s .2)
 
 same-length : tie.Need-same-length
 same-length c = search needs
@@ -47,9 +54,11 @@ returns c =
     let n = f .before .before in
     let k = n .before in
     let a = k .before .before .before .before .args in
+    let facts : Draws (factLines (prevailCount (ones (without (a .needs) (a .dels))) (a .stay) (a .task) (a .bottom)) Holds (a .top) (without (a .needs) (a .dels))) _ _ _ _ _ _ _ _ =
     draws-is (omega arith) (omega arith)
-    (prevail-group (a .top) _ _ _ (a .stay) (a .task) (a .bottom) (n .prevail-count .ensures .0) (k .kept .ensures))
-    (f .kept-lines .ensures _ _ ▹ h .top-stays .ensures ▹ w .task-stays .ensures)
+    (λ p. facts-as Holds (a .top) (n .prevail-count .ensures .0 ∙ ap (λ (s : ℕ). prevailCount (ones s) (a .stay) (a .task) (a .bottom)) (k .kept .ensures)) (k .kept .ensures))
+    (f .fact-lines .ensures _ _) in
+    facts ▹ h .top-stays .ensures ▹ w .task-stays .ensures
 
 pub prevails-spec : {M : Type 1} → statement M
 prevails-spec =
@@ -57,7 +66,7 @@ prevails-spec =
     (tie.spec
     kept-requires
     prevail-count-requires
-    kept-lines-requires
+    fact-lines-requires
     top-stays-requires
     task-stays-requires
     same-length

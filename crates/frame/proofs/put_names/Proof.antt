@@ -5,14 +5,14 @@ use Rattle.basics.specs.Lists.{upto}
 use Rattle.laws.proofs.TextLaws.{upto-more}
 use Rattle.text.specs.Appends.{Appends}
 use Rattle.text.proofs.AppendLaws.{_▸_, appends-is, appends-none}
-use Rattle.frame.specs.Frames.{numberLine}
+use Rattle.frame.specs.Frames.{labelled}
 use borrow.Author.Needs.{needs}
 use Rattle.frame.proofs.put_names.Statement.{statement}
 use Rattle.frame.proofs.put_names.Tie as tie
 
 abbrev Inv-loop : tie.InvT-loop
 Inv-loop out₀ at s n next₀ k₀ out next k =
-    (k ≤ n) × Appends out₀ at (upto (numberLine s) k) out next × (next ≤ at + 7 * k)
+    (k ≤ n) × Appends out₀ at (upto (labelled s) k) out next × (next ≤ at + 7 * k)
 
 abbrev μ-loop : tie.MeasureT-loop
 μ-loop out₀ at s n next₀ k₀ out next k = n - k
@@ -50,7 +50,7 @@ returns c =
     let l = c .before in
     let a = l .before .before .before .args in
     let e : a .n ≡ l .loop .k = omega arith in
-    (appends-is (ap (upto (numberLine (a .s .now))) e) (l .loop .inv .1), omega arith)
+    (appends-is (ap (upto (labelled (a .s .now))) e) (l .loop .inv .1), omega arith)
 
 pub put-names-spec : {M : Type 1} → statement M
 put-names-spec =

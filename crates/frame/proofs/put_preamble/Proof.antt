@@ -1,5 +1,5 @@
 use native.Mathlib.Omega.{arith}
-use Rattle.rules.specs.Sections.{preamble}
+use Rattle.version3.specs.Spelling.{preamble}
 use borrow.Author.Needs.{needs}
 use Rattle.frame.proofs.put_preamble.Statement.{statement}
 use Rattle.frame.proofs.put_preamble.Tie as tie

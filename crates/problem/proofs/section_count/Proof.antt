@@ -1,19 +1,12 @@
-use mathlib.Core.Path.{_≡_}
-use native.Mathlib.Omega.{arith}
 use borrow.Author.Needs.{needs}
+use native.Mathlib.Omega.{arith}
 use Rattle.words.specs.Words.{tableOf}
 use Rattle.laws.proofs.CountLaws.{operators-few, sections-length}
 use Rattle.problem.proofs.section_count.Statement.{statement}
 use Rattle.problem.proofs.section_count.Tie as tie
 
-fact-count-requires : tie.Need-fact-count-requires
-fact-count-requires c κs = search needs
-
-add-variables : tie.Need-add-variables
-add-variables c = search needs
-
-add-variables-2 : tie.Need-add-variables-2
-add-variables-2 c = search needs
+variable-count-requires : tie.Need-variable-count-requires
+variable-count-requires c κs = search needs
 
 operator-count-requires : tie.Need-operator-count-requires
 operator-count-requires c κs = search needs
@@ -36,11 +29,4 @@ returns c =
 pub section-count-spec : {M : Type 1} → statement M
 section-count-spec =
     tie.close
-    (tie.spec
-    fact-count-requires
-    add-variables
-    add-variables-2
-    operator-count-requires
-    add-result
-    add-result-2
-    returns)
+    (tie.spec variable-count-requires operator-count-requires add-result add-result-2 returns)

@@ -1,8 +1,8 @@
+use borrow.Author.Needs.{needs}
 use mathlib.Core.Path.{_≡_, subst}
 use Prim.Native.Nat.{_+_, _-_}
 use native.Mathlib.Omega.{arith}
-use borrow.Author.Needs.{needs}
-use Rattle.rules.specs.Sections.{variableCount}
+use Rattle.rules.specs.Problems.{variableCount}
 use Rattle.words.specs.Words.{tableOf}
 use Rattle.problem.specs.declared.Found.{Found}
 use Rattle.problem.specs.Places.{IsFound}
@@ -10,14 +10,8 @@ use Rattle.section.proofs.ChosenLaws.{chosen-first, chosen-variable, ch
 use Rattle.section.proofs.put_section.Statement.{statement}
 use Rattle.section.proofs.put_section.Tie as tie
 
-fact-count-requires : tie.Need-fact-count-requires
-fact-count-requires c κs = search needs
-
-add-variables : tie.Need-add-variables
-add-variables c = search needs
-
-add-variables-2 : tie.Need-add-variables-2
-add-variables-2 c = search needs
+variable-count-requires : tie.Need-variable-count-requires
+variable-count-requires c κs = search needs
 
 put-preamble-requires : tie.Need-put-preamble-requires
 put-preamble-requires c κs = search needs
@@ -28,17 +22,14 @@ same-length c = search needs
 returns : tie.Need-returns
 returns c =
     let a = c .before .before .before .before .before .before .before .before .args in
-    let t = tableOf (a .words .now) in
     let put = c .before .before .put-preamble .ensures in
-    begins _ (chosen-first (a .bound) (a .form) t (a .k) (c .before .before .before .before .if1 .taken)) (put .0) (omega (arith, put .1))
+    begins _ (chosen-first (a .bound) (a .form) (tableOf (a .words .now)) (a .k) (c .before .before .before .before .if1 .taken)) (put .0) (omega (arith, put .1))
 
 sub-put-variable : tie.Need-sub-put-variable
 sub-put-variable c = search needs
 
 put-variable-requires : tie.Need-put-variable-requires
-put-variable-requires c κs =
-    let a = c .before .before .before .before .before .before in
-    (a .pre .0, a .pre .2, omega (arith, a .pre .3), omega (arith, c .before .before .before .fact-count .ensures, c .before .before .if1 .left, c .before .if2 .taken))
+put-variable-requires c κs = search needs
 
 same-length-2 : tie.Need-same-length-2
 same-length-2 c = search needs
@@ -46,9 +37,8 @@ same-length-2 c = search needs
 returns-2 : tie.Need-returns-2
 returns-2 c =
     let a = c .before .before .before .before .before .before .before .before .before .args in
-    let t = tableOf (a .words .now) in
     let put = c .before .before .put-variable .ensures in
-    begins _ (chosen-variable (a .bound) (a .form) t (a .k) (c .before .before .before .before .before .if1 .left) (omega (arith, c .before .before .before .before .before .before .fact-count .ensures, c .before .before .before .before .if2 .taken))) (put .0) (omega (arith, put .1))
+    begins _ (chosen-variable (a .bound) (a .form) (tableOf (a .words .now)) (a .k) (c .before .before .before .before .before .if1 .left) (omega (arith, c .before .before .before .before .before .before .variable-count .ensures, c .before .before .before .before .if2 .taken))) (put .0) (omega (arith, put .1))
 
 add-if3 : tie.Need-add-if3
 add-if3 c = search needs
@@ -62,9 +52,8 @@ same-length-3 c = search needs
 returns-3 : tie.Need-returns-3
 returns-3 c =
     let a = c .before .before .before .before .before .before .before .before .before .before .args in
-    let t = tableOf (a .words .now) in
     let put = c .before .before .put-middle .ensures in
-    begins _ (chosen-middle (a .bound) (a .form) t (a .k) (omega (arith, c .before .before .before .before .before .before .before .fact-count .ensures, c .before .before .before .before .if3 .taken))) (put .0) (omega (arith, put .1))
+    begins _ (chosen-middle (a .bound) (a .form) (tableOf (a .words .now)) (a .k) (omega (arith, c .before .before .before .before .before .before .before .variable-count .ensures, c .before .before .before .before .if3 .taken))) (put .0) (omega (arith, put .1))
 
 sub-find : tie.Need-sub-find
 sub-find c = search needs
@@ -81,7 +70,7 @@ enum-known-i c = search needs
 put-operator-requires : tie.Need-put-operator-requires
 put-operator-requires c κs =
     let a = c .before .before .before .before .before .before .before .before .before .before .before in
-    let n = a .args .k - (c .before .before .before .before .before .before .before .before .fact-count .result + 1 + a .args .bound) - 2 in
+    let n = a .args .k - c .before .before .before .before .before .before .before .before .variable-count .result - 2 in
     let found = subst (λ (r : Found). IsFound (a .args .bound) (a .args .form) (tableOf (a .args .words .now)) n r) (c .before .before .i .given .1) (c .before .before .before .before .find .ensures) in
     ((a .pre .0, a .pre .2, found .step), (found .position, a .pre .3))
 
@@ -101,9 +90,9 @@ returns-4 : tie.Need-returns-4
 returns-4 c =
     let a = c .before .before .before .before .before .before .before .before .before .before .before .before .before .before .before .before .args in
     let t = tableOf (a .words .now) in
-    let n = a .k - (c .before .before .before .before .before .before .before .before .before .before .before .before .before .fact-count .result + 1 + a .bound) - 2 in
+    let n = a .k - c .before .before .before .before .before .before .before .before .before .before .before .before .before .variable-count .result - 2 in
     let found = subst (λ (r : Found). IsFound (a .bound) (a .form) t n r) (c .before .before .before .before .before .before .before .over .given .1) (c .before .before .before .before .before .before .before .before .before .find .ensures) in
-    let e : a .k ≡ variableCount t (a .bound) + 2 + n = omega (arith, c .before .before .before .before .before .before .before .before .before .before .before .before .before .fact-count .ensures, c .before .before .before .before .before .before .before .before .before .before .before .if2 .left, c .before .before .before .before .before .before .before .before .before .before .if3 .left) in
+    let e : a .k ≡ variableCount (a .bound) t + 2 + n = omega (arith, c .before .before .before .before .before .before .before .before .before .before .before .before .before .variable-count .ensures, c .before .before .before .before .before .before .before .before .before .before .before .if2 .left, c .before .before .before .before .before .before .before .before .before .before .if3 .left) in
     let put = c .before .before .put .ensures in
     begins _ (chosen-last (a .bound) (a .form) t (a .k) n e (omega (arith, found, c .before .before .before .before .before .if4 .taken))) put (omega (arith, put .next))
 
@@ -114,9 +103,9 @@ returns-5 : tie.Need-returns-5
 returns-5 c =
     let a = c .before .before .before .before .before .before .before .before .before .before .before .before .before .before .args in
     let t = tableOf (a .words .now) in
-    let n = a .k - (c .before .before .before .before .before .before .before .before .before .before .before .fact-count .result + 1 + a .bound) - 2 in
+    let n = a .k - c .before .before .before .before .before .before .before .before .before .before .before .variable-count .result - 2 in
     let found = subst (λ (r : Found). IsFound (a .bound) (a .form) t n r) (c .before .before .before .before .before .i .given .1) (c .before .before .before .before .before .before .before .find .ensures) in
-    let e : a .k ≡ variableCount t (a .bound) + 2 + n = omega (arith, c .before .before .before .before .before .before .before .before .before .before .before .fact-count .ensures, c .before .before .before .before .before .before .before .before .before .if2 .left, c .before .before .before .before .before .before .before .before .if3 .left) in
+    let e : a .k ≡ variableCount (a .bound) t + 2 + n = omega (arith, c .before .before .before .before .before .before .before .before .before .before .before .variable-count .ensures, c .before .before .before .before .before .before .before .before .before .if2 .left, c .before .before .before .before .before .before .before .before .if3 .left) in
     let put = c .before .before .put-operator .ensures in
     begins _ (chosen-operator (a .bound) (a .form) t (a .k) n e _ _ found) (put .0) (put .1)
 
@@ -124,18 +113,16 @@ returns-6 : tie.Need-returns-6
 returns-6 c =
     let a = c .before .before .before .before .before .before .before .before .before .before .before .args in
     let t = tableOf (a .words .now) in
-    let n = a .k - (c .before .before .before .before .before .before .before .before .fact-count .result + 1 + a .bound) - 2 in
+    let n = a .k - c .before .before .before .before .before .before .before .before .variable-count .result - 2 in
     let found = subst (λ (r : Found). IsFound (a .bound) (a .form) t n r) (c .before .before .over .given .1) (c .before .before .before .before .find .ensures) in
-    let e : a .k ≡ variableCount t (a .bound) + 2 + n = omega (arith, c .before .before .before .before .before .before .before .before .fact-count .ensures, c .before .before .before .before .before .before .if2 .left, c .before .before .before .before .before .if3 .left) in
+    let e : a .k ≡ variableCount (a .bound) t + 2 + n = omega (arith, c .before .before .before .before .before .before .before .before .variable-count .ensures, c .before .before .before .before .before .before .if2 .left, c .before .before .before .before .before .if3 .left) in
     refused (a .space .now) _ (chosen-none (a .bound) (a .form) t (a .k) n e _ found (c .if4 .left))
 
 pub put-section-spec : {M : Type 1} → statement M
 put-section-spec =
     tie.close
     (tie.spec
-    fact-count-requires
-    add-variables
-    add-variables-2
+    variable-count-requires
     put-preamble-requires
     same-length
     returns

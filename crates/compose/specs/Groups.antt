@@ -1,0 +1,55 @@
+-- An operator's parts as they are written, each as a piece of its template: name, the two groups of lines after their counts, cost.
+use Prim.Native.Nat.{ℕ, suc, _+_, _-_}
+use mathlib.Core.Bool.{cond}
+use mathlib.Core.List.{List, _∷_, _++_}
+use lib.Bits.{bitOr}
+use lib.Count.{ones}
+use lib.Dec.{eqb}
+use Rattle.basics.specs.Texts.{bytes, digits}
+use Rattle.version3.specs.Spelling.{wordLine, numberLine}
+use Rattle.rules.specs.Facts.{without}
+use Rattle.listing.specs.declared.Says.{Says}
+use Rattle.listing.specs.declared.Says.the-variants.{Holds, Changes}
+use Rattle.listing.specs.Listings.{listText, listBytes}
+use Rattle.drawing.specs.Pieces.{Piece, _then_, fixed}
+use Rattle.stack_lines.specs.StackLines.{topStays, taskStays, topMoves, taskMoves, pushAll}
+
+abbrev pub opening : ℕ → ℕ → Piece
+opening letter k =
+    record { text = λ p. bytes "begin_operator\n" ++ wordLine ((letter ∷ digits k) ++ (32 ∷ digits (suc p))); bytes = 21; numbers = 1 }
+
+abbrev pub ending : ℕ → Piece
+ending cost = fixed (numberLine cost ++ bytes "end_operator\n") 34
+
+-- How many lines a group has, and those of its facts.
+abbrev pub factLines : ℕ → Says → ℕ → ℕ → Piece
+factLines n says top set = fixed (numberLine n ++ listText says top set) (4 + listBytes says)
+
+-- The lines of the two groups: of so many facts, and of the stack, where `stay` tasks are left and `bottom` stands in the place
+-- of `task`.
+abbrev pub prevailCount : ℕ → ℕ → ℕ → ℕ → ℕ
+prevailCount facts stay task bottom = facts + cond (eqb stay 1) 1 0 + cond (eqb bottom task) 1 0
+
+abbrev pub effectCount : ℕ → ℕ → ℕ → ℕ → ℕ
+effectCount facts stay task bottom = facts + cond (eqb stay 1) 0 1 + cond (eqb bottom task) 0 1 + (stay - 1)
+
+abbrev pub prevailGroup : ℕ → ℕ → ℕ → ℕ → ℕ → ℕ → Piece
+prevailGroup top needs dels stay task bottom =
+    factLines (prevailCount (ones (without needs dels)) stay task bottom) Holds top (without needs dels)
+    then topStays top stay
+    then taskStays top task bottom
+
+abbrev pub effectGroup : ℕ → ℕ → ℕ → ℕ → ℕ → ℕ → ℕ → List ℕ → Piece
+effectGroup top needs adds dels stay task bottom cells =
+    factLines (effectCount (ones (bitOr dels (without adds needs))) stay task bottom) (Changes needs dels) top (bitOr dels (without adds needs))
+    then topMoves top stay
+    then taskMoves top task bottom
+    then pushAll top cells stay
+
+-- All of it.
+abbrev pub whole : ℕ → ℕ → ℕ → ℕ → ℕ → ℕ → ℕ → ℕ → ℕ → List ℕ → ℕ → Piece
+whole top letter k needs adds dels stay task bottom cells cost =
+    opening letter k
+    then prevailGroup top needs dels stay task bottom
+    then effectGroup top needs adds dels stay task bottom cells
+    then ending cost

@@ -1,0 +1,11 @@
+use mathlib.Core.Path.{refl}
+use Rattle.rules.specs.Facts.{without}
+use Rattle.listing.proofs.altered.Statement.{statement}
+use Rattle.listing.proofs.altered.Tie as tie
+
+returns : tie.Need-returns
+unfolding without
+returns c = refl
+
+pub altered-spec : {M : Type 1} → statement M
+altered-spec = tie.close (tie.spec returns)

@@ -1,0 +1,43 @@
+-- The lines of the facts of a set, and the bytes that they take.
+use Prim.Native.Nat.{ℕ, _*_}
+use mathlib.Core.Bool.{Bool, cond}
+use mathlib.Core.List.{List, [], map}
+use Rattle.basics.specs.Lists.{concat}
+use Rattle.basics.specs.Texts.{bytes}
+use Rattle.version3.specs.Spelling.{spellSetting, spellEffect}
+use Rattle.rules.specs.Limits.{mostFacts}
+use Rattle.rules.specs.Facts.{has, membersOf}
+use Rattle.rules.specs.Problems.{set, holding, factEffect}
+use Rattle.listing.specs.declared.Says.{Says}
+use Rattle.listing.specs.declared.Says.the-variants.{Holds, Changes}
+
+-- Of one fact, and of some.
+abbrev pub lineOf : Says → ℕ → List ℕ
+lineOf Holds k = spellSetting (set k 0)
+lineOf (Changes needs dels) k = spellEffect (factEffect needs dels k)
+
+abbrev pub linesOf : Says → List ℕ → List (List ℕ)
+linesOf Holds ks = map spellSetting (holding ks)
+linesOf (Changes needs dels) ks = map spellEffect (map (factEffect needs dels) ks)
+
+-- Of the facts of a set, of n facts in all; and of fact k alone, where the set has it.
+abbrev pub listText : Says → ℕ → ℕ → List ℕ
+listText says n s = concat (linesOf says (membersOf n s))
+
+unfoldable pub lineWhere : Says → ℕ → ℕ → List ℕ
+lineWhere says s k = cond (has s k) (lineOf says k) []
+
+-- No line and no list is longer.
+abbrev pub lineBytes : Says → ℕ
+lineBytes Holds = 6
+lineBytes (Changes needs dels) = 11
+
+abbrev pub listBytes : Says → ℕ
+listBytes says = lineBytes says * mostFacts
+
+-- The value before and the value after, as a line has them.
+abbrev pub before : Bool → List ℕ
+before needed = cond needed (bytes " 0 ") (bytes " -1 ")
+
+abbrev pub after : Bool → List ℕ
+after deleted = cond deleted (bytes "1\n") (bytes "0\n")

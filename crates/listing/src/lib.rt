@@ -1,0 +1,114 @@
+// The lines of the facts of a set, and how many facts it has. No other writer walks over a set.
+ghost use mathlib.Core.Path.{_≡_};
+ghost use Prim.Native.Nat.{_+_, _≤_, _<_};
+ghost use lib.Bits.{bitOr};
+ghost use lib.Count.{ones};
+ghost use lib.ListN.{length};
+ghost use Rattle.version3.specs.Spelling.{spellSetting, spellEffect};
+ghost use Rattle.rules.specs.Limits.{mostFacts};
+ghost use Rattle.rules.specs.Facts.{without};
+ghost use Rattle.rules.specs.Problems.{set as Problems·set, factEffect};
+ghost use Rattle.text.specs.Appends.{Appends};
+ghost use Rattle.listing.specs.Listings.{before, after, lineWhere, listText, lineBytes, listBytes};
+
+// What a list says of each of its facts: that it holds, or how it changes, by the facts that are needed and those that are deleted.
+pub enum Says {
+    Holds,
+    Changes(u64, u64),
+}
+
+// The facts that prevail: those needed and not deleted.
+pub fn kept(needs: u64, dels: u64) -> u64
+    ensures { λ r. ⌜ r ≡ without needs dels ⌝ }
+{
+    needs ^ (needs & dels)
+}
+
+// The facts that change: those deleted, and those added and not needed.
+pub fn altered(needs: u64, adds: u64, dels: u64) -> u64
+    ensures { λ r. ⌜ r ≡ bitOr dels (without adds needs) ⌝ }
+{
+    let gained = adds ^ (adds & needs);
+    dels | gained
+}
+
+// How many facts a set has.
+pub fn count(set: u64) -> u64
+    ensures { λ r. ⌜ r ≡ ones set ⌝ }
+    ensures { λ r. ⌜ r ≤ mostFacts ⌝ }
+{
+    u64::count_ones(set) as u64
+}
+
+// That fact k holds.
+fn put_holds(out: &mut [u8], at: usize, k: u64) -> usize
+    requires { ⌜ (at + 6 ≤ length (now out)) × (k < mostFacts) ⌝ }
+    ensures { λ r. ⌜ Appends (now (out .entry)) at (spellSetting (Problems·set k 0)) (now (out .exit)) r ⌝ }
+    ensures { λ r. ⌜ r ≤ at + 6 ⌝ }
+{
+    let next = text::put_field(out, at, b"", k);
+    text::put(out, next, b" 0\n")
+}
+
+// The value before: a needed fact holds, of any other nothing is said.
+fn put_before(out: &mut [u8], at: usize, needed: bool) -> usize
+    requires { ⌜ at + 4 ≤ length (now out) ⌝ }
+    ensures { λ r. ⌜ Appends (now (out .entry)) at (before needed) (now (out .exit)) r ⌝ }
+    ensures { λ r. ⌜ r ≤ at + 4 ⌝ }
+{
+    if needed {
+        return text::put(out, at, b" 0 ");
+    }
+    text::put(out, at, b" -1 ")
+}
+
+// The value after: a deleted fact no longer holds, an added one does.
+fn put_after(out: &mut [u8], at: usize, deleted: bool) -> usize
+    requires { ⌜ at + 2 ≤ length (now out) ⌝ }
+    ensures { λ r. ⌜ Appends (now (out .entry)) at (after deleted) (now (out .exit)) r ⌝ }
+    ensures { λ r. ⌜ r ≤ at + 2 ⌝ }
+{
+    if deleted {
+        return text::put(out, at, b"1\n");
+    }
+    text::put(out, at, b"0\n")
+}
+
+// How fact k changes.
+fn put_change(out: &mut [u8], at: usize, needs: u64, dels: u64, k: u64) -> usize
+    requires { ⌜ (at + 11 ≤ length (now out)) × (k < mostFacts) ⌝ }
+    ensures { λ r. ⌜ Appends (now (out .entry)) at (spellEffect (factEffect needs dels k)) (now (out .exit)) r ⌝ }
+    ensures { λ r. ⌜ r ≤ at + 11 ⌝ }
+{
+    let value = text::put_field(out, at, b"0 ", k);
+    let next = put_before(out, value, facts::has(needs, k));
+    put_after(out, next, facts::has(dels, k))
+}
+
+// The line of fact k, where the set has it.
+fn put_line(out: &mut [u8], at: usize, says: Says, set: u64, k: u64) -> usize
+    requires { ⌜ (at + lineBytes says ≤ length (now out)) × (k < mostFacts) ⌝ }
+    ensures { λ r. ⌜ Appends (now (out .entry)) at (lineWhere says set k) (now (out .exit)) r ⌝ }
+    ensures { λ r. ⌜ r ≤ at + lineBytes says ⌝ }
+{
+    if !facts::has(set, k) {
+        return at;
+    }
+    match says {
+        Says::Holds => put_holds(out, at, k),
+        Says::Changes(needs, dels) => put_change(out, at, needs, dels, k),
+    }
+}
+
+// The lines of the facts of a set, of n facts in all.
+pub fn put_lines(out: &mut [u8], at: usize, says: Says, set: u64, n: u64) -> usize
+    requires { ⌜ (at + listBytes says ≤ length (now out)) × (n ≤ mostFacts) ⌝ }
+    ensures { λ r. ⌜ Appends (now (out .entry)) at (listText says n set) (now (out .exit)) r ⌝ }
+    ensures { λ r. ⌜ r ≤ at + listBytes says ⌝ }
+{
+    let mut next = at;
+    for k in 0..n {
+        next = put_line(out, next, says, set, k);
+    }
+    next
+}

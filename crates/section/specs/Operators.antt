@@ -1,0 +1,26 @@
+-- The operators of one step, and the template that says them.
+use Prim.Native.Nat.{ℕ, suc, _+_, _*_, _≤_}
+use mathlib.Core.Path.{_≡_}
+use mathlib.Core.List.{List}
+use Rattle.rules.specs.Tables.{Table, factCount}
+use Rattle.rules.specs.Operators.{positions}
+use Rattle.rules.specs.Problems.{noTask, nameOf}
+use Rattle.laws.specs.Steps.{stepAt, operatorText}
+use Rattle.template.specs.Sizes.{operatorBytes}
+use Rattle.template.specs.Templates.{Drawn}
+use Rattle.rows.specs.Rows.{Row}
+use Rattle.compose.specs.RowTexts.{rowText}
+use Rattle.section.specs.declared.Composed.{Composed}
+
+-- The operator of step i at the position p + 1: from a row, and as the document has it.
+abbrev pub stepRow : Table → ℕ → Row → ℕ → List ℕ
+stepRow t i r p = rowText (factCount t) (noTask t) (nameOf (stepAt t i)) r p
+
+abbrev pub stepOperator : ℕ → Table → ℕ → ℕ → List ℕ
+stepOperator f t i p = operatorText f t (record { what = stepAt t i; at = suc p })
+
+-- The template says the operator of step i at each position.
+pub record IsComposed (b f : ℕ) (t : Table) (i : ℕ) (s lens offs : List ℕ) (r : Composed) : Type 0 where
+  pub drawn : Drawn s lens offs (r .pen) (stepOperator f t i)
+  pub most : r .pen .at + 3 * r .pen .count ≤ operatorBytes
+  pub count : r .count ≡ positions b f t (stepAt t i)
