@@ -3,8 +3,8 @@ use Prim.Native.Nat.{ℕ}
 use mathlib.Core.List.{List}
 use Rattle.rules.specs.declared.Verdict.{Verdict}
 use Rattle.rules.specs.declared.Verdict.the-variants.{Accepted, Refused}
-use Rattle.console.specs.Judged.{Left, Judged}
+use Rattle.console.specs.Judged.{Expandable, Judged}
 
-pub judged : {f : ℕ} {s words cells : List ℕ} → Left f s words cells → (r : Verdict) → Judged f s r words cells
+pub judged : {b f : ℕ} {s plan words cells : List ℕ} → Expandable b f s plan words cells → (r : Verdict) → Judged b f s plan r words cells
 judged h (Accepted cost operators steps) = h
 judged h (Refused number place) = tt

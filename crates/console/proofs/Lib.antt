@@ -1,4 +1,3 @@
-pub mod OrderLaws
 mod JudgeLaws
 mod WriteLaws
 mod SectionCallLaws

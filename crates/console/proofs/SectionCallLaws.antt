@@ -1,6 +1,6 @@
 -- One section, measured or written: what its length, and what a writer left, say of the call's answer.
 use mathlib.Core.Path.{_≡_, refl, sym, ap, _∙_}
-use mathlib.Core.Bool.{Bool, true, false, _&&_}
+use mathlib.Core.Bool.{Bool}
 use mathlib.Core.List.{List, [], _++_, append-nil, append-assoc}
 use Prim.Native.Nat.{ℕ, _+_, _-_, _≤_, _<_}
 use native.Mathlib.Nat.{le-refl}
@@ -12,60 +12,22 @@ use lib.Dec.{leb}
 use lib.ListN.{length, take, drop, length-drop, take-append-drop, drop-of-length-le}
 use lib.Seq.{sets, sets-eq, take-all, drop-drop}
 use Rattle.basics.specs.Answers.{Answer, answer, refusal, check, after, lengthOf}
-use Rattle.basics.specs.Readings.{got, bad}
-use Rattle.rules.specs.Tables.{Table, decode}
-use Rattle.rules.specs.Sections.{sectionsOf}
-use Rattle.rules.specs.Refusals.{chosen, roomFor, readOf, oneSection, written}
-use Rattle.laws.proofs.RefusalLaws.{table-bad, table-got}
+use Rattle.rules.specs.Limits.{mostSectionBytes}
+use Rattle.rules.specs.Reasons.{noRoom}
+use Rattle.rules.specs.Refusals.{roomOf, roomFor, written}
+use Rattle.laws.proofs.RefusalLaws.{room-short, room-fits, room-length}
 use Rattle.section.specs.Chosen.{Begins}
-use Rattle.console.specs.Order.{earlyNumber}
-use Rattle.console.specs.Rooms.{roomAt}
-use Rattle.console.proofs.OrderLaws.{early-refuses, early-passes}
-
--- ---- the order of refusals
-
-module _ (b f : ℕ) (s : List ℕ) (k size at : ℕ) where
-  pub one-early : (earlyNumber b f (length s) ≡ 0 → ⊥) → oneSection b f s k size at ≡ refusal (earlyNumber b f (length s)) 0
-  unfolding oneSection
-  one-early h = early-refuses b f s _ h
-
-  module _ (early : earlyNumber b f (length s) ≡ 0) where
-    pub one-bad : {why place : ℕ} → decode s ≡ bad why place → oneSection b f s k size at ≡ refusal why place
-    unfolding oneSection
-    one-bad e = early-passes b f s _ early ∙ table-bad s _ e
-
-    pub one-got : {t : Table} {end : ℕ} → decode s ≡ got t end → oneSection b f s k size at ≡ after (chosen (sectionsOf b f t) k) (roomFor size at)
-    unfolding oneSection
-    one-got e = early-passes b f s _ early ∙ table-got s _ e
 
 -- ---- room
 
-room-tests : (x : List ℕ) (c : Bool) → check c 16 (length x) (answer (length x)) ≡ lengthOf (check c 16 (length x) (answer x))
-room-tests x true = refl
-room-tests x false = refl
-
--- A length has room where its text has.
-pub room-length : (size at : ℕ) (x : Answer (List ℕ)) → roomAt size at (lengthOf x) ≡ lengthOf (after x (roomFor size at))
-unfolding roomAt
-room-length size at (answer x) = room-tests x (leb (at + length x) size)
-room-length size at (refusal number place) = refl
-
-module _ (size at : ℕ) where
-  pub room-short : (n : ℕ) → size < at + n → roomAt size at (answer n) ≡ refusal 16 n
-  unfolding roomAt
-  room-short n l = rw (lt-leb (at + n) size l)
-
-  pub room-fits : (n : ℕ) → at + n ≤ size → roomAt size at (answer n) ≡ answer n
-  unfolding roomAt
-  room-fits n l = rw (le-leb (at + n) size l)
-
-  pub room-refused : (number place : ℕ) → roomAt size at (refusal number place) ≡ refusal number place
-  unfolding roomAt
-  room-refused number place = refl
+-- A section has room where its length has.
+pub measured-length : (size at : ℕ) (x : Answer (List ℕ)) → lengthOf (after x (roomFor size at)) ≡ after (lengthOf x) (roomOf size at)
+measured-length size at (answer x) = room-length size at x
+measured-length size at (refusal number place) = refl
 
 -- ---- a section that stands at the start of a space, by its length n
 
-pub put-low : (x : Answer (List ℕ)) (space : List ℕ) {n : ℕ} → lengthOf x ≡ answer n → Begins x space → n ≤ 2048
+pub put-low : (x : Answer (List ℕ)) (space : List ℕ) {n : ℕ} → lengthOf x ≡ answer n → Begins x space → n ≤ mostSectionBytes
 put-low (answer x) space {n} e h = let p : length x ≡ n = cc in omega (arith, h .1)
 put-low (refusal number place) space {n} e h = let z : _≡_ {A = ℕ} 0 1 = cc in absurd (omega arith)
 
@@ -80,17 +42,17 @@ put-refused (answer x) size e = cc
 put-refused (refusal number place) size e = cc
 
 -- Too little room for it.
-pub put-short : (x : Answer (List ℕ)) (size : ℕ) {n : ℕ} → lengthOf x ≡ answer n → size < n → after x (roomFor size 0) ≡ refusal 16 n
+pub put-short : (x : Answer (List ℕ)) (size : ℕ) {n : ℕ} → lengthOf x ≡ answer n → size < n → after x (roomFor size 0) ≡ refusal noRoom n
 put-short (answer x) size {n} e l =
     let p : length x ≡ n = cc in
-    rw (lt-leb (0 + length x) size (omega arith)) (ap (refusal 16) p)
+    room-short size 0 x (omega arith) ∙ ap (refusal noRoom) p
 put-short (refusal number place) size {n} e l = cc
 
 -- Room for it.
 pub put-fits : (x : Answer (List ℕ)) (size : ℕ) {n : ℕ} → lengthOf x ≡ answer n → n ≤ size → after x (roomFor size 0) ≡ x
 put-fits (answer x) size {n} e l =
     let p : length x ≡ n = cc in
-    rw (le-leb (0 + length x) size (omega arith))
+    room-fits size 0 x (omega arith)
 put-fits (refusal number place) size {n} e l = refl
 
 -- Its bytes copied.
@@ -122,7 +84,7 @@ module _ (old : List ℕ) (at : ℕ) (l : at ≤ length old) where
 
   -- The part has room where the text has.
   pub part-room : (x : Answer (List ℕ)) → after x (roomFor (length part) 0) ≡ after x (roomFor (length old) at)
-  part-room (answer x) = ap (λ (c : Bool). check c 16 (length x) (answer x)) (part-test (length x))
+  part-room (answer x) = ap (λ (c : Bool). after (check c noRoom (length x) (answer (length x))) (λ _. answer x)) (part-test (length x))
   part-room (refusal number place) = refl
 
   part-text : (x : Answer (List ℕ)) → take at old ++ written (drop at old) 0 x ≡ written old at x
@@ -140,26 +102,8 @@ module _ (old : List ℕ) (at : ℕ) (l : at ≤ length old) where
 
 -- ---- a place past the end of the text
 
-module _ (old : List ℕ) (at : ℕ) where
-  kept-check : (c : Bool) (number place : ℕ) (x : Answer (List ℕ)) → written old at x ≡ old → written old at (check c number place x) ≡ old
-  unfolding written
-  kept-check true number place x e = e
-  kept-check false number place x e = refl
-
-  kept-after : {A : Type 0} (x : Answer A) (g : A → Answer (List ℕ)) → ((a : A) → written old at (g a) ≡ old) → written old at (after x g) ≡ old
-  unfolding written
-  kept-after (answer a) g h = h a
-  kept-after (refusal number place) g h = refl
-
-  kept-room : length old < at → (x : List ℕ) → written old at (roomFor (length old) at x) ≡ old
-  unfolding written
-  kept-room l x = rw (lt-leb (at + length x) (length old) (omega arith))
-
-  -- Nothing is written.
-  pub kept-past : (b f : ℕ) (s : List ℕ) (k : ℕ) → length old < at → written old at (oneSection b f s k (length old) at) ≡ old
-  unfolding oneSection
-  kept-past b f s k l =
-      kept-check (leb 1 b && leb b 64) 1 0 _
-      (kept-check (leb f 1) 2 0 _
-      (kept-check (leb (length s) 32768) 3 0 _
-      (kept-after (readOf (decode s)) _ (λ t. kept-after (chosen (sectionsOf b f t) k) (roomFor (length old) at) (kept-room l)))))
+-- Nothing is written.
+pub kept-past : (old : List ℕ) (at : ℕ) → length old < at → (x : Answer (List ℕ)) → written old at (after x (roomFor (length old) at)) ≡ old
+unfolding written
+kept-past old at l (answer x) = rw (room-short (length old) at x (omega arith))
+kept-past old at l (refusal number place) = refl

@@ -1,22 +1,22 @@
 -- An accepted plan's expansion, by what the check left in the arrays.
 use mathlib.Core.Path.{_≡_, refl, sym, ap, _∙_}
-use mathlib.Core.Bool.{Bool, true, false}
 use mathlib.Core.List.{List, append-assoc}
 use Prim.Native.Nat.{ℕ, _+_, _*_, _≤_, _<_}
 use native.Mathlib.Omega.{arith}
-use borrow.Author.Tests.{le-leb, lt-leb}
-use lib.Dec.{leb}
 use lib.ListN.{length, take, drop}
 use lib.Seq.{sets, sets-eq}
 use Rattle.basics.specs.Answers.{Answer, answer, refusal, numberOf, placeOf, valueOf, itself, lengthOf}
+use Rattle.rules.specs.Limits.{mostPlanBytes}
+use Rattle.rules.specs.Reasons.{noRoom}
 use Rattle.rules.specs.Operators.{expandAll}
 use Rattle.rules.specs.Plans.{linesOf, opersOf}
 use Rattle.rules.specs.Checks.{accepted, checkLines, stepBytes}
-use Rattle.rules.specs.Refusals.{roomFor, checkPlan, expandPlan, written}
+use Rattle.rules.specs.Refusals.{planNumber, checkPlan, expandPlan, written}
+use Rattle.laws.proofs.RefusalLaws.{plan-small, room-short}
 use Rattle.words.specs.Words.{tableOf}
 use Rattle.theorems.specs.Demand.{Given}
-use Rattle.theorems.proofs.Demand3.{accepted-given, lines-pass, expansion-is, expansion-length}
-use Rattle.console.specs.Judged.{Left}
+use Rattle.theorems.proofs.Demand3.{opened-given, lines-pass, expansion-is, expansion, expansion-length}
+use Rattle.console.specs.Judged.{Expandable}
 
 -- A text's length has its text's number and place.
 pub length-number : (x : Answer (List ℕ)) → numberOf (lengthOf x) ≡ numberOf x
@@ -31,31 +31,28 @@ pub length-value : (x : Answer (List ℕ)) → valueOf itself (lengthOf x) ≡ v
 length-value (answer x) = refl
 length-value (refusal number place) = refl
 
-module _ (b f : ℕ) (s plan words cells : List ℕ) (c o k : ℕ) (e : checkPlan b f s plan ≡ accepted c o k) (h : Left f s words cells) where
-  given : Given b f s (tableOf words) (h .table .0)
-  given =
-      let q = accepted-given b f s plan c o k e .2 in
-      record { low = q .low; high = q .high; form = q .form; size = q .size; reads = h .table .1 }
+module _ (b f : ℕ) (s plan words cells : List ℕ) (c o k : ℕ) (e : checkPlan b f s plan ≡ accepted c o k) (h : Expandable b f s plan words cells) where
+  given : Given b f s (tableOf words)
+  given = opened-given (planNumber plan) b f s (tableOf words) (h .opens) .0
 
-  pub plan-small : length plan ≤ 65536
-  plan-small = accepted-given b f s plan c o k e .3
+  pub plan-short : length plan ≤ mostPlanBytes
+  plan-short = plan-small plan (opened-given (planNumber plan) b f s (tableOf words) (h .opens) .1)
 
   pub lines-accepted : numberOf (checkLines b f (tableOf words) (linesOf plan)) ≡ 0
-  lines-accepted = ap numberOf (lines-pass given plan plan-small c o k e)
+  lines-accepted = ap numberOf (lines-pass given plan plan-short c o k e)
 
   pub bytes-long : length (stepBytes (expandAll f (tableOf words) (opersOf (linesOf plan)))) ≡ 2 * k
-  bytes-long = expansion-length given plan plan-small c o k e
+  bytes-long = expansion-length given plan plan-short c o k e
 
   -- Too little room, and enough.
-  pub no-room : (size : ℕ) → size < 2 * k → expandPlan b f s plan size ≡ refusal 16 (2 * k)
+  pub no-room : (size : ℕ) → size < 2 * k → expandPlan b f s plan size ≡ refusal noRoom (2 * k)
   no-room size l =
-      expansion-is given plan plan-small c o k e size
-      ∙ rw (lt-leb (0 + length (stepBytes (expandAll f (tableOf words) (opersOf (linesOf plan))))) size (omega (arith, bytes-long))) (ap (refusal 16) bytes-long)
+      expansion-is given plan plan-short c o k e size
+      ∙ room-short size 0 (stepBytes (expandAll f (tableOf words) (opersOf (linesOf plan)))) (omega (arith, bytes-long))
+      ∙ ap (refusal noRoom) bytes-long
 
   pub in-room : (size : ℕ) → 2 * k ≤ size → expandPlan b f s plan size ≡ answer (stepBytes (expandAll f (tableOf words) (opersOf (linesOf plan))))
-  in-room size l =
-      expansion-is given plan plan-small c o k e size
-      ∙ rw (le-leb (0 + length (stepBytes (expandAll f (tableOf words) (opersOf (linesOf plan))))) size (omega (arith, bytes-long)))
+  in-room size l = expansion given plan plan-short c o k e size l
 
   pub wrote : (old new : List ℕ) → 2 * k ≤ length old → new ≡ sets old 0 (stepBytes (expandAll f (tableOf words) (opersOf (linesOf plan))))
       → new ≡ written old 0 (expandPlan b f s plan (length old))

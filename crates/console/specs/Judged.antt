@@ -1,19 +1,21 @@
--- What a check leaves for the expansion: where the plan is accepted, its table in words and its methods' numbers of steps.
+-- What the check of a plan leaves for its expansion.
 use Prim.Native.Nat.{ℕ}
 use mathlib.Core.Path.{_≡_}
 use mathlib.Core.List.{List}
+use Rattle.basics.specs.Answers.{answer}
 use Rattle.rules.specs.declared.Verdict.{Verdict}
 use Rattle.rules.specs.declared.Verdict.the-variants.{Accepted, Refused}
-use Rattle.basics.specs.Readings.{got}
-use Rattle.rules.specs.Tables.{decode}
+use Rattle.rules.specs.Refusals.{planNumber, opened}
 use Rattle.words.specs.Words.{tableOf, Held}
 use Rattle.plan.specs.Ready.{StepsHeld}
 
-pub record Left (f : ℕ) (s words cells : List ℕ) : Type 0 where
+-- The plan's table is opened into the words, and the cells hold its methods' numbers of steps.
+pub record Expandable (b f : ℕ) (s plan words cells : List ℕ) : Type 0 where
+  pub opens : opened (planNumber plan) b f s ≡ answer (tableOf words)
   pub held : Held words
-  pub table : (n : ℕ) × (decode s ≡ got (tableOf words) n)
   pub steps : StepsHeld f (tableOf words) cells
 
-abbrev pub Judged : ℕ → List ℕ → Verdict → List ℕ → List ℕ → Type 0
-Judged f s (Accepted cost operators steps) words cells = Left f s words cells
-Judged f s (Refused number place) words cells = Unit {0}
+-- So it is where the plan is accepted.
+abbrev pub Judged : ℕ → ℕ → List ℕ → List ℕ → Verdict → List ℕ → List ℕ → Type 0
+Judged b f s plan (Accepted cost operators steps) words cells = Expandable b f s plan words cells
+Judged b f s plan (Refused number place) words cells = Unit {0}

@@ -2,35 +2,19 @@
 ghost use mathlib.Core.Path.{_≡_};
 ghost use lib.ListN.{length};
 ghost use Rattle.basics.specs.Answers.{numberOf, placeOf, valueOf, replyOf, lengthOf};
-ghost use Rattle.rules.specs.Checks.{verdictOf};
 ghost use Rattle.rules.specs.Refusals.{expandPlan, written};
-ghost use Rattle.theorems.specs.Measures.{roomOf};
-ghost use Rattle.plan.specs.Ready.{Few};
 use basics::Reply;
 use rules::Verdict;
+use rules::reasons::NO_ROOM;
 
-// Two bytes a step, where there is room for them.
-fn room(verdict: Verdict, size: usize) -> Reply
-    requires { ⌜ Few verdict ⌝ }
-    ensures { λ r. ⌜ replyOf r ≡ roomOf size (verdictOf verdict) ⌝ }
-{
-    match verdict {
-        Verdict::Refused(number, place) => Reply::Refused(number, place),
-        Verdict::Accepted(_, _, steps) => {
-            let bytes = 2 * steps;
-            if (size as u64) < bytes {
-                return Reply::Refused(16, bytes);
-            }
-            Reply::Value(bytes)
-        }
-    }
-}
-
-// The length of the step list, and nothing written.
+// The length of the step list, two bytes a step, and nothing written.
 fn measure(bound: u64, form: u64, table: &[u8], plan: &[u8], size: usize) -> Reply
     ensures { λ r. ⌜ replyOf r ≡ lengthOf (expandPlan bound form (now (table .entry)) (now (plan .entry)) size) ⌝ }
 {
-    room(crate::plans::verdict(bound, form, table, plan), size)
+    match crate::plans::verdict(bound, form, table, plan) {
+        Verdict::Refused(number, place) => Reply::Refused(number, place),
+        Verdict::Accepted(_, _, count) => crate::rooms::room(2 * count, size as u64, 0),
+    }
 }
 
 // The step list from the start of the bytes on, and its length.
@@ -38,7 +22,7 @@ fn write(bound: u64, form: u64, table: &[u8], plan: &[u8], steps: &mut [u8]) -> 
     ensures { λ r. ⌜ replyOf r ≡ lengthOf (expandPlan bound form (now (table .entry)) (now (plan .entry)) (length (now (steps .entry)))) ⌝ }
     ensures { λ _. ⌜ now (steps .exit) ≡ written (now (steps .entry)) 0 (expandPlan bound form (now (table .entry)) (now (plan .entry)) (length (now (steps .entry)))) ⌝ }
 {
-    let mut words = [0u64; 6147];
+    let mut words = [0u64; words::SIZE];
     let mut ops = [0u64; 3068];
     let mut cells = [0u16; 9204];
     match crate::judging::judge(bound, form, table, plan, &mut words, &mut ops, &mut cells) {
@@ -46,7 +30,7 @@ fn write(bound: u64, form: u64, table: &[u8], plan: &[u8], steps: &mut [u8]) -> 
         Verdict::Accepted(_, _, count) => {
             let bytes = 2 * count;
             if (steps.len() as u64) < bytes {
-                return Reply::Refused(16, bytes);
+                return Reply::Refused(NO_ROOM, bytes);
             }
             plan::expand::expand(&words, bound, form, &cells, plan, steps);
             Reply::Value(bytes)

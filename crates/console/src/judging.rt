@@ -3,13 +3,25 @@ ghost use mathlib.Core.Path.{_≡_};
 ghost use Prim.Native.Nat.{_≤_};
 ghost use lib.ListN.{length};
 ghost use Rattle.rules.specs.Checks.{verdictOf};
-ghost use Rattle.rules.specs.Refusals.{checkPlan};
+ghost use Rattle.rules.specs.Refusals.{planNumber, checkPlan};
+ghost use Rattle.words.specs.Words.{tableWords};
 ghost use Rattle.plan.specs.Ready.{Few};
 ghost use Rattle.console.specs.Judged.{Judged};
+use opening::Opening;
 use rules::Verdict;
-use table::Onward;
+use rules::limits::MOST_PLAN_BYTES;
+use rules::reasons::PLAN_TOO_LONG;
 
-// In the order of the refusals: bound, form, table's length, plan's length, table, plan.
+// The plan's length is the check's own check: told after the table's length and before the table.
+fn plan_number(plan: &[u8]) -> u64
+    ensures { λ r. ⌜ r ≡ planNumber (now (plan .entry)) ⌝ }
+{
+    if MOST_PLAN_BYTES < plan.len() {
+        return PLAN_TOO_LONG;
+    }
+    0
+}
+
 pub fn judge(
     bound: u64,
     form: u64,
@@ -19,20 +31,13 @@ pub fn judge(
     ops: &mut [u64],
     cells: &mut [u16],
 ) -> Verdict
-    requires { ⌜ (6147 ≤ length (now words)) × (3068 ≤ length (now ops)) × (9204 ≤ length (now cells)) ⌝ }
+    requires { ⌜ (tableWords ≤ length (now words)) × (3068 ≤ length (now ops)) × (9204 ≤ length (now cells)) ⌝ }
     ensures { λ r. ⌜ verdictOf r ≡ checkPlan bound form (now (table .entry)) (now (plan .entry)) ⌝ }
-    ensures { λ r. ⌜ Few r × Judged form (now (table .entry)) r (now (words .exit)) (now (cells .exit)) ⌝ }
+    ensures { λ r. ⌜ Few r × Judged bound form (now (table .entry)) (now (plan .entry)) r (now (words .exit)) (now (cells .exit)) ⌝ }
 {
-    let why = crate::order::early(bound, form, table.len());
-    if why != 0 {
-        return Verdict::Refused(why, 0);
-    }
-    if 65536 < plan.len() {
-        return Verdict::Refused(4, 0);
-    }
-    match table::read_table(table, words) {
-        Onward::Bad(why, at) => Verdict::Refused(why, at as u64),
-        Onward::To(_) => {
+    match opening::open(bound, form, table, plan_number(plan), words) {
+        Opening::Refused(number, place) => Verdict::Refused(number, place),
+        Opening::Opened => {
             rows::prepare(words, bound, form, ops, cells);
             plan::check::check(words, bound, form, ops, cells, plan)
         }

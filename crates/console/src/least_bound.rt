@@ -3,18 +3,15 @@ ghost use mathlib.Core.Path.{_≡_};
 ghost use Rattle.basics.specs.Answers.{numberOf, placeOf, valueOf, replyOf, itself};
 ghost use Rattle.rules.specs.Refusals.{findLeast};
 use basics::Reply;
-use table::Onward;
+use opening::Opening;
 
 fn find(table: &[u8]) -> Reply
     ensures { λ r. ⌜ replyOf r ≡ findLeast (now (table .entry)) ⌝ }
 {
-    if 32768 < table.len() {
-        return Reply::Refused(3, 0);
-    }
-    let mut words = [0u64; 6147];
-    match table::read_table(table, &mut words) {
-        Onward::Bad(why, at) => Reply::Refused(why, at as u64),
-        Onward::To(_) => Reply::Value(least::least(&words)),
+    let mut words = [0u64; words::SIZE];
+    match opening::open_table(table, 0, &mut words) {
+        Opening::Refused(number, place) => Reply::Refused(number, place),
+        Opening::Opened => Reply::Value(least::least(&words)),
     }
 }
 

@@ -4,7 +4,7 @@ pub mod expanding;
 mod judging;
 pub mod least_bound;
 pub mod one_section;
-pub mod order;
 pub mod plans;
 mod reply;
+mod rooms;
 pub mod sections;

@@ -2,29 +2,23 @@
 ghost use mathlib.Core.Path.{_≡_};
 ghost use Prim.Native.Nat.{_≤_};
 ghost use lib.ListN.{length};
-ghost use Rattle.basics.specs.Answers.{numberOf, placeOf, valueOf, replyOf, after, lengthOf};
-ghost use Rattle.rules.specs.Sections.{sectionsOf};
-ghost use Rattle.rules.specs.Refusals.{chosen, roomFor, oneSection, written};
+ghost use Rattle.basics.specs.Answers.{numberOf, placeOf, valueOf, replyOf, lengthOf};
+ghost use Rattle.rules.specs.Limits.{mostBound};
+ghost use Rattle.rules.specs.Refusals.{sectionFor, oneSection, written};
 ghost use Rattle.words.specs.Words.{tableOf, Held};
-ghost use Rattle.console.specs.Rooms.{roomAt};
 use basics::Reply;
-use table::Onward;
+use opening::Opening;
+use rules::reasons::NO_ROOM;
 
-// A section of so many bytes where there is room for it from the place on.
-fn room(reply: Reply, size: u64, at: u64) -> Reply
-    ensures { λ r. ⌜ replyOf r ≡ roomAt size at (replyOf reply) ⌝ }
+// The length of a section of an opened table where there is room for it from the place on; nothing is written.
+fn measured(words: &[u64], bound: u64, form: u64, index: u64, size: usize, at: u64) -> Reply
+    requires { ⌜ Held (now words) × (1 ≤ bound) × (bound ≤ mostBound) ⌝ }
+    ensures { λ r. ⌜ replyOf r ≡ lengthOf (sectionFor bound form (tableOf (now (words .entry))) index size at) ⌝ }
 {
-    match reply {
+    let mut space = [0u8; 4096];
+    match section::put_section(words, bound, form, index, &mut space) {
         Reply::Refused(number, place) => Reply::Refused(number, place),
-        Reply::Value(bytes) => {
-            if size < at {
-                return Reply::Refused(16, bytes);
-            }
-            if size - at < bytes {
-                return Reply::Refused(16, bytes);
-            }
-            Reply::Value(bytes)
-        }
+        Reply::Value(bytes) => crate::rooms::room(bytes, size as u64, at),
     }
 }
 
@@ -32,26 +26,18 @@ fn room(reply: Reply, size: u64, at: u64) -> Reply
 fn measure(bound: u64, form: u64, table: &[u8], index: u64, size: usize, at: u64) -> Reply
     ensures { λ r. ⌜ replyOf r ≡ lengthOf (oneSection bound form (now (table .entry)) index size at) ⌝ }
 {
-    let why = crate::order::early(bound, form, table.len());
-    if why != 0 {
-        return Reply::Refused(why, 0);
-    }
-    let mut words = [0u64; 6147];
-    match table::read_table(table, &mut words) {
-        Onward::Bad(why, place) => Reply::Refused(why, place as u64),
-        Onward::To(_) => {
-            let mut space = [0u8; 4096];
-            let reply = section::put_section(&words, bound, form, index, &mut space);
-            room(reply, size as u64, at)
-        }
+    let mut words = [0u64; words::SIZE];
+    match opening::open(bound, form, table, 0, &mut words) {
+        Opening::Refused(number, place) => Reply::Refused(number, place),
+        Opening::Opened => measured(&words, bound, form, index, size, at),
     }
 }
 
 // The section at the start of the part that is lent, where there is room for it; its length.
 fn put(words: &[u64], bound: u64, form: u64, index: u64, part: &mut [u8]) -> Reply
-    requires { ⌜ Held (now words) × (1 ≤ bound) × (bound ≤ 64) ⌝ }
-    ensures { λ r. ⌜ replyOf r ≡ lengthOf (after (chosen (sectionsOf bound form (tableOf (now (words .entry)))) index) (roomFor (length (now (part .entry))) 0)) ⌝ }
-    ensures { λ _. ⌜ now (part .exit) ≡ written (now (part .entry)) 0 (after (chosen (sectionsOf bound form (tableOf (now (words .entry)))) index) (roomFor (length (now (part .entry))) 0)) ⌝ }
+    requires { ⌜ Held (now words) × (1 ≤ bound) × (bound ≤ mostBound) ⌝ }
+    ensures { λ r. ⌜ replyOf r ≡ lengthOf (sectionFor bound form (tableOf (now (words .entry))) index (length (now (part .entry))) 0) ⌝ }
+    ensures { λ _. ⌜ now (part .exit) ≡ written (now (part .entry)) 0 (sectionFor bound form (tableOf (now (words .entry))) index (length (now (part .entry))) 0) ⌝ }
 {
     let mut space = [0u8; 4096];
     match section::put_section(words, bound, form, index, &mut space) {
@@ -59,7 +45,7 @@ fn put(words: &[u64], bound: u64, form: u64, index: u64, part: &mut [u8]) -> Rep
         Reply::Value(bytes) => {
             let size = bytes as usize;
             if part.len() < size {
-                return Reply::Refused(16, bytes);
+                return Reply::Refused(NO_ROOM, bytes);
             }
             text::copy(part, 0, &space[..size]);
             Reply::Value(bytes)
@@ -67,23 +53,21 @@ fn put(words: &[u64], bound: u64, form: u64, index: u64, part: &mut [u8]) -> Rep
     }
 }
 
-// The section in the text from the place on, and its length.
+// The section in the text from the place on, and its length. A place past the end is no room: there the section is only measured.
 fn write(bound: u64, form: u64, table: &[u8], index: u64, text: &mut [u8], at: u64) -> Reply
     ensures { λ r. ⌜ replyOf r ≡ lengthOf (oneSection bound form (now (table .entry)) index (length (now (text .entry))) at) ⌝ }
     ensures { λ _. ⌜ now (text .exit) ≡ written (now (text .entry)) at (oneSection bound form (now (table .entry)) index (length (now (text .entry))) at) ⌝ }
 {
-    let from = at as usize;
-    if text.len() < from {
-        return measure(bound, form, table, index, text.len(), at);
-    }
-    let why = crate::order::early(bound, form, table.len());
-    if why != 0 {
-        return Reply::Refused(why, 0);
-    }
-    let mut words = [0u64; 6147];
-    match table::read_table(table, &mut words) {
-        Onward::Bad(why, place) => Reply::Refused(why, place as u64),
-        Onward::To(_) => put(&words, bound, form, index, &mut text[from..]),
+    let mut words = [0u64; words::SIZE];
+    match opening::open(bound, form, table, 0, &mut words) {
+        Opening::Refused(number, place) => Reply::Refused(number, place),
+        Opening::Opened => {
+            let from = at as usize;
+            if text.len() < from {
+                return measured(&words, bound, form, index, text.len(), at);
+            }
+            put(&words, bound, form, index, &mut text[from..])
+        }
     }
 }
 

@@ -3,20 +3,15 @@ ghost use mathlib.Core.Path.{_≡_};
 ghost use Rattle.basics.specs.Answers.{numberOf, placeOf, valueOf, replyOf, itself};
 ghost use Rattle.rules.specs.Refusals.{countSections};
 use basics::Reply;
-use table::Onward;
+use opening::Opening;
 
-// In the order of the refusals: bound, form, table.
 fn count(bound: u64, form: u64, table: &[u8]) -> Reply
     ensures { λ r. ⌜ replyOf r ≡ countSections bound form (now (table .entry)) ⌝ }
 {
-    let why = crate::order::early(bound, form, table.len());
-    if why != 0 {
-        return Reply::Refused(why, 0);
-    }
-    let mut words = [0u64; 6147];
-    match table::read_table(table, &mut words) {
-        Onward::Bad(why, at) => Reply::Refused(why, at as u64),
-        Onward::To(_) => Reply::Value(problem::section_count(&words, bound, form)),
+    let mut words = [0u64; words::SIZE];
+    match opening::open(bound, form, table, 0, &mut words) {
+        Opening::Refused(number, place) => Reply::Refused(number, place),
+        Opening::Opened => Reply::Value(problem::section_count(&words, bound, form)),
     }
 }
 

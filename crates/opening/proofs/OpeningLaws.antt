@@ -18,8 +18,11 @@ module _ {o : Answer Table} {K : Type 0} (w : List ℕ) where
   pub opening-opened : o ≡ answer (tableOf w) → K → Opens o K Opened w
   opening-opened e h = record { answers = sym e; known = λ _. h }
 
--- What comes after an opening, at the constructor that a match found its answer to be: the entry's work on the table in the words, or
--- the refusal.
-pub goes-on : {A K : Type 0} {o : Answer Table} {r q : Opening} {w : List ℕ} (k : Table → Answer A) → Opens o K r w → r ≡ q
-    → after o k ≡ after (openingOf q w) k
-goes-on {w = w} k h p = ap (λ x. after x k) (via (λ (r : Opening). openingOf r w) (h .answers) p)
+-- What an opening answered, at the constructor that a match found.
+module _ {K : Type 0} {o : Answer Table} {r q : Opening} {w : List ℕ} (h : Opens o K r w) (p : r ≡ q) where
+  pub answered : o ≡ openingOf q w
+  answered = via (λ (r : Opening). openingOf r w) (h .answers) p
+
+  -- What comes after it: the entry's work on the table in the words, or the refusal.
+  pub goes-on : {A : Type 0} (k : Table → Answer A) → after o k ≡ after (openingOf q w) k
+  goes-on k = ap (λ (x : Answer Table). after x k) answered

@@ -10,9 +10,9 @@ use Rattle.rules.specs.declared.Verdict.{Verdict}
 use Rattle.rules.specs.Checks.{verdictOf}
 use Rattle.theorems.proofs.Expansion.{expansion-refused}
 use Rattle.plan.specs.Ready.{Few}
-use Rattle.numbers.proofs.AnswerLaws.{via}
+use Rattle.laws.proofs.AnswerLaws.{via}
 use Rattle.console.specs.Judged.{Judged}
-use Rattle.console.proofs.WriteLaws.{plan-small, lines-accepted, bytes-long, no-room, in-room, wrote, kept}
+use Rattle.console.proofs.WriteLaws.{plan-short, lines-accepted, bytes-long, no-room, in-room, wrote, kept}
 use Rattle.console.proofs.expanding.write.Statement.{statement}
 use Rattle.console.proofs.expanding.write.Tie as tie
 
@@ -42,7 +42,7 @@ returns c =
     let a = c .before .before .before .before .before .before .before .before .before .before .before .before .before .before .args in
     let j = c .before .before .before .before .before .before .before .judge in
     let e = via verdictOf (j .ensures .0) (c .before .before .count .given .1) in
-    let h = subst (λ (v : Verdict). Judged (a .form) (a .table .now) v (j .last .1 .1 .1 .1 .0) (j .last .1 .1 .1 .1 .1 .1 .0)) (c .before .before .count .given .1) (j .ensures .1 .1) in
+    let h = subst (λ (v : Verdict). Judged (a .bound) (a .form) (a .table .now) (a .plan .now) v (j .last .1 .1 .1 .1 .0) (j .last .1 .1 .1 .1 .1 .1 .0)) (c .before .before .count .given .1) (j .ensures .1 .1) in
     let q = no-room (a .bound) (a .form) (a .table .now) (a .plan .now) _ _ _ _ _ e h (length (a .steps .now)) (c .if1 .taken) in
     (sym (ap lengthOf q), kept (a .steps .now) 0 _ q)
 
@@ -57,10 +57,10 @@ expand-requires c κs =
     let a = c .before .before .before .before .before .before .before .before .before .before .before .before .before .before .before .before .before .args in
     let j = c .before .before .before .before .before .before .before .before .before .before .judge in
     let e = via verdictOf (j .ensures .0) (c .before .before .before .before .before .count .given .1) in
-    let h = subst (λ (v : Verdict). Judged (a .form) (a .table .now) v (j .last .1 .1 .1 .1 .0) (j .last .1 .1 .1 .1 .1 .1 .0)) (c .before .before .before .before .before .count .given .1) (j .ensures .1 .1) in
+    let h = subst (λ (v : Verdict). Judged (a .bound) (a .form) (a .table .now) (a .plan .now) v (j .last .1 .1 .1 .1 .0) (j .last .1 .1 .1 .1 .1 .1 .0)) (c .before .before .before .before .before .count .given .1) (j .ensures .1 .1) in
     let s = a .table .now in
     let p = a .plan .now in (
-      (h .held, h .steps, plan-small (a .bound) (a .form) s p _ _ _ _ _ e h),
+      (h .held, h .steps, plan-short (a .bound) (a .form) s p _ _ _ _ _ e h),
       (
         lines-accepted (a .bound) (a .form) s p _ _ _ _ _ e h,
         omega (arith, bytes-long (a .bound) (a .form) s p _ _ _ _ _ e h, c .before .before .before .if1 .left),
@@ -82,7 +82,7 @@ returns-3 c =
     let a = c .before .before .before .before .before .before .before .before .before .before .before .before .before .before .before .before .before .before .before .before .args in
     let j = c .before .before .before .before .before .before .before .before .before .before .before .before .before .judge in
     let e = via verdictOf (j .ensures .0) (c .before .before .before .before .before .before .before .before .count .given .1) in
-    let h = subst (λ (v : Verdict). Judged (a .form) (a .table .now) v (j .last .1 .1 .1 .1 .0) (j .last .1 .1 .1 .1 .1 .1 .0)) (c .before .before .before .before .before .before .before .before .count .given .1) (j .ensures .1 .1) in
+    let h = subst (λ (v : Verdict). Judged (a .bound) (a .form) (a .table .now) (a .plan .now) v (j .last .1 .1 .1 .1 .0) (j .last .1 .1 .1 .1 .1 .1 .0)) (c .before .before .before .before .before .before .before .before .count .given .1) (j .ensures .1 .1) in
     let s = a .table .now in
     let p = a .plan .now in
     let room = c .before .before .before .before .before .before .if1 .left in (

@@ -1,52 +1,47 @@
 use mathlib.Core.Path.{sym, ap, _∙_}
-use Prim.Native.Nat.{ℕ, _-_}
-use native.Mathlib.Omega.{arith}
-use borrow.Author.Needs.{needs}
+use Prim.Native.Nat.{_-_}
 use borrow.Rule.Slice.PartMut.{putMid}
 use lib.ListN.{length, take, drop}
-use Rattle.basics.specs.Answers.{refusal, after, lengthOf}
+use Rattle.basics.specs.Answers.{after, lengthOf}
 use Rattle.rules.specs.Sections.{sectionsOf}
-use Rattle.rules.specs.Refusals.{chosen, roomFor, written}
+use Rattle.rules.specs.Refusals.{chosen, roomFor, sectionFor, oneSection, written}
 use Rattle.words.specs.Words.{tableOf}
-use Rattle.table.specs.Answers.{onwardOf}
-use Rattle.table.specs.declared.Onward.{Onward}
-use Rattle.numbers.proofs.AnswerLaws.{via}
-use Rattle.table.proofs.AnswerLaws.{read-held}
+use Rattle.opening.proofs.OpeningLaws.{goes-on}
 use Rattle.console.proofs.WriteLaws.{kept}
-use Rattle.console.proofs.OrderLaws.{early-bound}
-use Rattle.console.proofs.SectionCallLaws.{one-early, one-bad, one-got, part-room, part-back, kept-past}
+use Rattle.console.proofs.SectionCallLaws.{part-room, part-back, kept-past}
+use borrow.Author.Needs.{needs}
 use Rattle.console.proofs.one_section.write.Statement.{statement}
 use Rattle.console.proofs.one_section.write.Tie as tie
 
-measure-requires : tie.Need-measure-requires
-measure-requires c κs = search needs
+slice-aggregate-open : tie.Need-slice-aggregate-open
+slice-aggregate-open c = search needs
 
-returns : tie.Need-returns
-returns c =
-    let a = c .before .before .before .before .args in
-    (c .measure .ensures, sym (kept-past (a .text .now) (a .at) (a .bound) (a .form) (a .table .now) (a .index) (c .before .if1 .taken)))
+open-requires : tie.Need-open-requires
+open-requires c κs = search needs
 
-early-requires : tie.Need-early-requires
-early-requires c κs = search needs
-
-returns-2 : tie.Need-returns-2
-returns-2 c =
-    let a = c .before .before .before .before .before .args in
-    let e = c .before .early .ensures in
-    let q = one-early (a .bound) (a .form) (a .table .now) (a .index) (length (a .text .now)) (a .at) (λ z. c .if2 .taken (e ∙ z)) in
-    (sym (ap lengthOf q ∙ ap (λ (n : ℕ). refusal n 0) (sym e)), kept (a .text .now) (a .at) _ q)
-
-slice-aggregate-read-table : tie.Need-slice-aggregate-read-table
-slice-aggregate-read-table c = search needs
-
-read-table-requires : tie.Need-read-table-requires
-read-table-requires c κs = search needs
-
-enum-known-why : tie.Need-enum-known-why
-enum-known-why c = search needs
+enum-known-number : tie.Need-enum-known-number
+enum-known-number c = search needs
 
 enum-told : tie.Need-enum-told
 enum-told c = search needs
+
+slice-aggregate-measured : tie.Need-slice-aggregate-measured
+slice-aggregate-measured c = search needs
+
+measured-requires : tie.Need-measured-requires
+measured-requires c κs =
+    let usable = c .before .before .before .before .before .«open» .ensures .known (c .before .before .enum-told .given .1) in
+    (usable .held, usable .low, usable .high)
+
+returns : tie.Need-returns
+unfolding oneSection
+returns c =
+    let opening = c .before .before .before .before .before .before in
+    let a = opening .before .before .before .before .args in
+    let old = a .text .now in
+    let x = chosen (sectionsOf (a .bound) (a .form) (tableOf (opening .«open» .last .1 .1 .1 .1 .0))) (a .index) in
+    let q = goes-on (opening .«open» .ensures) (c .before .before .before .enum-told .given .1) (λ t. sectionFor (a .bound) (a .form) t (a .index) (length old) (a .at)) in
+    (c .measured .ensures ∙ sym (ap lengthOf q), sym (ap (written old (a .at)) q ∙ kept-past old (a .at) (c .before .before .if1 .taken) x))
 
 slice-aggregate-put : tie.Need-slice-aggregate-put
 slice-aggregate-put c = search needs
@@ -62,34 +57,30 @@ part-put-end c = search needs
 
 put-requires : tie.Need-put-requires
 put-requires c κs =
-    let a = c .before .before .before .before .before .before .before .before .before .before .before .before .args in
-    let read = c .before .before .before .before .before .read-table in
-    let early = early-bound (a .bound) (a .form) _ (sym (c .before .before .before .before .before .before .before .before .early .ensures) ∙ c .before .before .before .before .before .before .before .if2 .left) in
-    (read-held (a .table .now) _ (read .result) (omega (arith, read .kept .1 .0)) (read .ensures) (c .before .before .enum-told .given .1), early .0, early .1)
+    let usable = c .before .before .before .before .before .before .«open» .ensures .known (c .before .before .before .enum-told .given .1) in
+    (usable .held, usable .low, usable .high)
 
-returns-3 : tie.Need-returns-3
-returns-3 c =
-    let a = c .before .before .before .before .before .before .before .before .before .before .before .args in
-    let read = c .before .before .before .before .read-table in
-    let early = sym (c .before .before .before .before .before .before .before .early .ensures) ∙ c .before .before .before .before .before .before .if2 .left in
-    let e = via (λ (r : Onward). onwardOf r (tableOf (read .last .1 .0))) (read .ensures) (c .before .why .given .1) in
-    let q = one-bad (a .bound) (a .form) (a .table .now) (a .index) (length (a .text .now)) (a .at) early e in
+returns-2 : tie.Need-returns-2
+unfolding oneSection
+returns-2 c =
+    let opening = c .before .before .before .before in
+    let a = opening .before .before .before .before .args in
+    let q = goes-on (opening .«open» .ensures) (c .before .number .given .1) (λ t. sectionFor (a .bound) (a .form) t (a .index) (length (a .text .now)) (a .at)) in
     (sym (ap lengthOf q), kept (a .text .now) (a .at) _ q)
 
 same-length : tie.Need-same-length
 same-length c = search needs
 
-returns-4 : tie.Need-returns-4
-returns-4 c =
-    let a = c .before .before .before .before .before .before .before .before .before .before .before .before .before .before .before .args in
-    let read = c .before .before .before .before .before .before .before .before .read-table in
-    let w = read .last .1 .0 in
-    let early = sym (c .before .before .before .before .before .before .before .before .before .before .before .early .ensures) ∙ c .before .before .before .before .before .before .before .before .before .before .if2 .left in
-    let e = via (λ (r : Onward). onwardOf r (tableOf w)) (read .ensures) (c .before .before .before .before .before .enum-told .given .1) in
+returns-3 : tie.Need-returns-3
+unfolding oneSection
+returns-3 c =
+    let opening = c .before .before .before .before .before .before .before .before .before in
+    let a = opening .before .before .before .before .args in
     let old = a .text .now in
-    let x = chosen (sectionsOf (a .bound) (a .form) (tableOf w)) (a .index) in
-    let l = c .before .before .before .before .before .before .before .before .before .before .before .before .if1 .left in
-    let q = part-room old (a .at) l x ∙ sym (one-got (a .bound) (a .form) (a .table .now) (a .index) (length (a .text .now)) (a .at) early e) in
+    let x = chosen (sectionsOf (a .bound) (a .form) (tableOf (opening .«open» .last .1 .1 .1 .1 .0))) (a .index) in
+    let l = c .before .before .before .before .before .if1 .left in
+    let e = goes-on (opening .«open» .ensures) (c .before .before .before .before .before .before .enum-told .given .1) (λ t. sectionFor (a .bound) (a .form) t (a .index) (length old) (a .at)) in
+    let q = part-room old (a .at) l x ∙ sym e in
     let done = c .before .before .put .ensures in (
       done .0 ∙ ap lengthOf q,
       ap (putMid (a .at) (length old - a .at) old) (done .1)
@@ -101,19 +92,18 @@ pub write-spec : {M : Type 1} → statement M
 write-spec =
     tie.close
     (tie.spec
-    measure-requires
-    returns
-    early-requires
-    returns-2
-    slice-aggregate-read-table
-    read-table-requires
-    enum-known-why
+    slice-aggregate-open
+    open-requires
+    enum-known-number
     enum-told
+    slice-aggregate-measured
+    measured-requires
+    returns
     slice-aggregate-put
     sub-put
     part-put-start
     part-put-end
     put-requires
-    returns-3
+    returns-2
     same-length
-    returns-4)
+    returns-3)
