@@ -5,8 +5,8 @@ use mathlib.Core.List.{List, [], _∷_, _++_}
 use lib.Dec.{eqb, leb}
 use Rattle.rules.specs.Progression.{Step, act, mth}
 use Rattle.rules.specs.Operators.{Operator}
-use Rattle.basics.specs.Texts.{bytes, digits, line}
-use Rattle.rules.specs.Problems.{nameOf}
+use Rattle.basics.specs.Texts.{bytes}
+use Rattle.rules.specs.Problems.{callOf}
 
 -- A line: a comment, an operator, or one of another shape.
 pub data Line : Type 0 where
@@ -88,7 +88,7 @@ shaped (oper o ∷ ls) = shaped ls
 
 -- The text of an operator, and of a list of them.
 abbrev pub textOf : Operator → List ℕ
-textOf o = bytes "(" ++ nameOf (o .what) ++ bytes " " ++ digits (o .at) ++ bytes ")"
+textOf o = bytes "(" ++ callOf o ++ bytes ")"
 
 unfoldable pub textsOf : List Operator → List ℕ
 textsOf [] = []

@@ -101,19 +101,26 @@ effects top free j task i rest =
     ++ cond (eqb (bottomNext free rest) task) [] (change (top + i) task (bottomNext free rest) ∷ [])
     ++ rows (push top i rest) (length rest - 1)
 
+-- What is written of an operator, here and between the brackets of a plan's line: a step's name, a space, a position.
+abbrev pub call : List ℕ → ℕ → List ℕ
+call name i = name ++ (32 ∷ digits i)
+
 unfoldable pub operAt : ℕ → ℕ → List ℕ → Join → ℕ → ℕ → List ℕ → ℕ → Oper
 operAt top free name j task i rest cost =
     record {
-      name = name ++ (32 ∷ digits i);
+      name = call name i;
       prevail = prevails top free j task i rest;
       effects = effects top free j task i rest;
       cost = cost;
     }
 
--- `a` or `m` and the number; what is written of an operator: that, a space, its position.
+-- "`a` or `m`, a number".
 abbrev pub nameOf : Step → List ℕ
 nameOf (act k) = bytes "a" ++ digits k
 nameOf (mth k) = bytes "m" ++ digits k
+
+abbrev pub callOf : Operator → List ℕ
+callOf o = call (nameOf (o .what)) (o .at)
 
 unfoldable pub operOf : ℕ → Table → Operator → Oper
 operOf f t o =

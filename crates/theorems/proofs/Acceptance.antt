@@ -6,6 +6,7 @@ use native.Mathlib.Omega.{arith}
 use lib.ListN.{length, length-append}
 use lib.Dec.{T, leb, eqb, eqb→eq, eqb-refl}
 use Rattle.basics.specs.Answers.{valueOf}
+use Rattle.rules.specs.Reasons.{notEmitted, notApplicable, stackNotEmpty, goalMissing}
 use Rattle.rules.specs.Tables.{Table, goalFacts}
 use Rattle.rules.specs.Facts.{holds}
 use Rattle.rules.specs.Progression.{Step, isEmpty, allAllowed, height, totalCost}
@@ -68,8 +69,8 @@ module _ (b f : ℕ) (t : Table) where
 
   pub sound : (ls : List Line) (p : Place) (c o k : ℕ) → T (leb (height (p .state)) b) → checkFrom b f t p ls ≡ accepted c o k → Fulfils b f t p ls c o k
   sound [] p c o k l e =
-      let q = check-passed (isEmpty (p .state .stack)) 14 (p .lines) _ e in
-      let r = check-passed (holds (goalFacts t) (p .state .facts)) 15 (p .lines) _ (q .1) in
+      let q = check-passed (isEmpty (p .state .stack)) stackNotEmpty (p .lines) _ e in
+      let r = check-passed (holds (goalFacts t) (p .state .facts)) goalMissing (p .lines) _ (q .1) in
       let z : accepted (p .cost) (p .operators) (p .steps) ≡ accepted c o k = r .1 in
       let c′ : p .cost ≡ c = ap (valueOf (λ (y : Tally). y .cost)) z in
       let o′ : p .operators ≡ o = ap (valueOf (λ (y : Tally). y .operators)) z in
@@ -81,8 +82,8 @@ module _ (b f : ℕ) (t : Table) where
   sound (other ∷ ls) p c o k l e = let z : _≡_ {A = ℕ} 0 1 = cc in absurd (omega arith)
   sound (oper x ∷ ls) p c o k l e =
       let s = p .state in
-      let q = check-passed (emitted b f t x) 12 (suc (p .lines)) _ e in
-      let r = check-passed (applies f t s x) 13 (suc (p .lines)) _ (q .1) in
+      let q = check-passed (emitted b f t x) notEmitted (suc (p .lines)) _ e in
+      let r = check-passed (applies f t s x) notApplicable (suc (p .lines)) _ (q .1) in
       let true-height : x .at ≡ height s = eqb→eq _ _ (and-l (eqb (x .at) (height s)) (allAllowed t s (expand f t x)) (r .0)) in
       let each : T (allAllowed t s (expand f t x)) = and-r (eqb (x .at) (height s)) (allAllowed t s (expand f t x)) (r .0) in
       let low = emitted-low b f t (x .what) s each (subst (λ (i : ℕ). T (emitted b f t (record { what = x .what; at = i }))) true-height (q .0)) in

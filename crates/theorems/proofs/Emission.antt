@@ -11,8 +11,8 @@ use Rattle.basics.specs.Lists.{rows}
 use Rattle.rules.specs.Tables.{Table, factCount, actionCount, methodCount, method}
 use Rattle.rules.specs.Facts.{without, joinFrom, joinOf, membersFrom, membersOf}
 use Rattle.rules.specs.Progression.{act, mth, prefix, remain}
-use Rattle.rules.specs.Operators.{joined, taskOf, leaves, highest, positions, emitted}
-use Rattle.rules.specs.Sections.{none, effects}
+use Rattle.rules.specs.Operators.{joined, highest, positions, emitted}
+use Rattle.rules.specs.Problems.{operAt, operOf}
 use Rattle.laws.specs.Valid.{Valid}
 use Rattle.laws.proofs.SetLaws.{has-zero}
 use Rattle.laws.proofs.TestLaws.{and-l, and-r, and-i, cond-false}
@@ -102,8 +102,8 @@ alone zero t k v l e = refl
 alone (suc f) t k v l e = rw (e, le-ltb (method t k .head) (actionCount t) (v .method k l .low))
 
 pub idle : (f : ℕ) (t : Table) (k i : ℕ) → Valid t → k < methodCount t → method t k .subs ≡ method t k .head ∷ []
-    → effects (factCount t) (none t) (joined f t (mth k)) (taskOf t (mth k)) i (leaves f t (mth k)) ≡ []
-unfolding joined joinOf joinFrom rows membersOf without
+    → operOf f t (record { what = mth k; at = i }) .effects ≡ []
+unfolding operOf operAt joined joinOf joinFrom rows membersOf without
 idle f t k i v l e =
     let same : i + 1 - 1 ≡ i = omega arith in
     rw (alone f t k v l e, e, no-members (factCount t) 0, eq-eqb (i + 1 - 1) i same, eq-eqb (method t k .head) (method t k .head) refl)

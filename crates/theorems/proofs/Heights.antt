@@ -1,13 +1,12 @@
 -- What an operator's steps do to the height, and that an operator is emitted exactly where its end is within the bound.
-use Prim.Native.Nat.{ℕ, zero, suc, _+_, _-_, _≤_, _<_}
+use Prim.Native.Nat.{ℕ, suc, _+_, _<_}
 use mathlib.Core.Path.{_≡_, refl}
-use mathlib.Core.Bool.{Bool, true, false, cond}
 use mathlib.Core.List.{List, [], _∷_, map, tail}
 use native.Mathlib.Omega.{arith}
 use lib.ListN.{length, length-append}
 use lib.Dec.{T, leb, ltb, leb→le, le→leb, ltb→lt}
 use Rattle.rules.specs.Tables.{Table, actionCount, methodCount, method}
-use Rattle.rules.specs.Progression.{State, Step, act, mth, onTop, fits, enabled, allowed, next, allAllowed, afterAll, height, leading, prefix, remain}
+use Rattle.rules.specs.Progression.{State, Step, act, mth, onTop, fits, enabled, allowed, next, allAllowed, afterAll, height, prefix, remain}
 use Rattle.rules.specs.Operators.{company, emitted}
 use Rattle.laws.proofs.JoinedPrefix.{living}
 use Rattle.laws.proofs.CountLaws.{prefix-short}

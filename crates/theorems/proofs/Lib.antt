@@ -11,4 +11,9 @@ pub mod Demand3
 pub mod Expansion
 pub mod Examples
 pub mod Listing
+pub mod Places
+pub mod LineLaws
+pub mod ValueCounts
+pub mod ProblemOrder
+pub mod LineCounts
 pub mod SectionSizes

@@ -9,7 +9,7 @@ use lib.Dec.{T, eqb, leb, ltb, le→leb}
 use Rattle.rules.specs.Progression.{Step, act, mth}
 use Rattle.rules.specs.Operators.{Operator}
 use Rattle.basics.specs.Texts.{bytes, digit, digitsF, digits}
-use Rattle.rules.specs.Sections.{nameOf}
+use Rattle.rules.specs.Problems.{nameOf}
 use Rattle.rules.specs.Plans.{oper, isDigit, read, more, number, position, named, lineOf, linesOf, textOf, textsOf}
 use Rattle.laws.proofs.TestLaws.{and-l, and-r, and-i, cond-true, cond-false}
 use Rattle.laws.proofs.PlanLaws.{no-more, noFeed, fed}
@@ -93,7 +93,7 @@ abbrev pub numberOf : Step → ℕ
 numberOf (act k) = k
 numberOf (mth k) = k
 
-regrouped : (x d : List ℕ) → bytes "(" ++ x ++ bytes " " ++ d ++ bytes ")" ≡ 40 ∷ (x ++ (32 ∷ (d ++ (41 ∷ []))))
+regrouped : (x d : List ℕ) → bytes "(" ++ (x ++ (32 ∷ d)) ++ bytes ")" ≡ 40 ∷ (x ++ (32 ∷ (d ++ (41 ∷ []))))
 regrouped x d = simp append-assoc
 
 text-of : (o : Operator) → textOf o ≡ 40 ∷ (nameOf (o .what) ++ (32 ∷ (digits (o .at) ++ (41 ∷ []))))

@@ -2,5 +2,6 @@
 pub mod Runs
 pub mod Solutions
 pub mod Demand
+pub mod Counts
 pub mod StepLists
 pub mod Measures
