@@ -4,16 +4,25 @@ ghost use mathlib.Core.List.{_++_};
 ghost use Prim.Native.Nat.{_+_, _≤_, _<_};
 ghost use lib.ListN.{length, take, getD};
 ghost use Rattle.basics.specs.Lists.{upto};
+ghost use Rattle.rules.specs.Limits.{mostBound};
 ghost use Rattle.rules.specs.Tables.{actionCount, methodCount};
-ghost use Rattle.rules.specs.Sections.{variableCount, variableText};
+ghost use Rattle.rules.specs.Problems.{variableCount};
 ghost use Rattle.rules.specs.Refusals.{wholeProblem};
-ghost use Rattle.laws.specs.Steps.{stepText, frontText};
+ghost use Rattle.laws.specs.Steps.{variableText, stepText, frontText};
 ghost use Rattle.words.specs.Words.{tableOf, Held};
 ghost use Rattle.text.specs.Appends.{Appends};
+ghost use Rattle.template.specs.Sizes.{figureCount};
 ghost use Rattle.template.specs.Figures.{Figures};
 ghost use Rattle.emission.specs.Opened.{emitInput, Opened};
+ghost use Rattle.emission.specs.Sizes.{variablesBytes, frontBytes, stepSpace, partBytes};
 use basics::Reply;
 use table::Onward;
+use template::FIGURE_BYTES;
+
+// Sizes, with the names that specs/Sizes has for them.
+const STEP_SPACE: usize = template::STEP_BYTES + template::MARGIN;
+
+const PART_BYTES: usize = 524288;
 
 pub fn emit(input: &[u8]) {
     let mut words = [0u64; 6147];
@@ -61,9 +70,9 @@ fn show_refusal(number: u64, place: u64) {
 
 // All sections: those before the operators, the operators, and the last.
 fn show(words: &[u64], bound: u64, form: u64)
-    requires { ⌜ Held (now words) × (bound ≤ 64) ⌝ }
+    requires { ⌜ Held (now words) × (bound ≤ mostBound) ⌝ }
 {
-    let mut figures = [0u8; 2048];
+    let mut figures = [0u8; FIGURE_BYTES];
     template::fill_figures(&mut figures);
     let mut out = space();
     let front = put_front(words, bound, form, &mut out);
@@ -73,15 +82,15 @@ fn show(words: &[u64], bound: u64, form: u64)
 }
 
 // Room for all that stands before the operators, and then for the operators of five steps.
-fn space() -> [u8; 524288]
-    ensures { λ r. ⌜ 524288 ≡ length r ⌝ }
+fn space() -> [u8; PART_BYTES]
+    ensures { λ r. ⌜ partBytes ≡ length r ⌝ }
 {
-    [0; 524288]
+    [0; PART_BYTES]
 }
 
 // The operators, in parts that fill the space.
 fn send_operators(words: &[u64], bound: u64, form: u64, figures: &[u8], out: &mut [u8])
-    requires { ⌜ Held (now words) × (bound ≤ 64) × Figures (now figures) 512 × (90176 ≤ length (now out)) ⌝ }
+    requires { ⌜ Held (now words) × (bound ≤ mostBound) × Figures (now figures) figureCount × (stepSpace ≤ length (now out)) ⌝ }
 {
     let steps = step_count(words);
     let mut next = 0;
@@ -100,11 +109,11 @@ fn step_count(words: &[u64]) -> usize
 }
 
 fn put_variables(words: &[u64], bound: u64, out: &mut [u8], at: usize) -> usize
-    requires { ⌜ Held (now words) × (bound ≤ 64) × (at + 264192 ≤ length (now out)) ⌝ }
-    ensures { λ r. ⌜ Appends (now (out .entry)) at (upto (variableText (tableOf (now (words .entry))) bound) (variableCount (tableOf (now (words .entry))) bound)) (now (out .exit)) r ⌝ }
-    ensures { λ r. ⌜ r ≤ at + 264192 ⌝ }
+    requires { ⌜ Held (now words) × (bound ≤ mostBound) × (at + variablesBytes ≤ length (now out)) ⌝ }
+    ensures { λ r. ⌜ Appends (now (out .entry)) at (upto (variableText bound (tableOf (now (words .entry)))) (variableCount bound (tableOf (now (words .entry))))) (now (out .exit)) r ⌝ }
+    ensures { λ r. ⌜ r ≤ at + variablesBytes ⌝ }
 {
-    let variables = words::fact_count(words) + 1 + bound;
+    let variables = problem::variable_count(words, bound);
     let mut next = at;
     for v in 0..variables {
         next = frame::put_variable(words, bound, v, out, next);
@@ -114,9 +123,9 @@ fn put_variables(words: &[u64], bound: u64, out: &mut [u8], at: usize) -> usize
 
 // The sections before the operators.
 fn put_front(words: &[u64], bound: u64, form: u64, out: &mut [u8]) -> usize
-    requires { ⌜ Held (now words) × (bound ≤ 64) × (268288 ≤ length (now out)) ⌝ }
+    requires { ⌜ Held (now words) × (bound ≤ mostBound) × (frontBytes ≤ length (now out)) ⌝ }
     ensures { λ r. ⌜ Appends (now (out .entry)) 0 (frontText bound form (tableOf (now (words .entry)))) (now (out .exit)) r ⌝ }
-    ensures { λ r. ⌜ r ≤ 268288 ⌝ }
+    ensures { λ r. ⌜ r ≤ frontBytes ⌝ }
 {
     let first = frame::put_preamble(words, bound, out, 0);
     let next = put_variables(words, bound, out, first);
@@ -131,13 +140,13 @@ struct Part {
 
 // The operators from a step on, of as many steps as there is room for.
 fn fill(words: &[u64], bound: u64, form: u64, figures: &[u8], from: usize, out: &mut [u8]) -> Part
-    requires { ⌜ Held (now words) × (bound ≤ 64) × Figures (now figures) 512 × (90176 ≤ length (now out)) ⌝ }
+    requires { ⌜ Held (now words) × (bound ≤ mostBound) × Figures (now figures) figureCount × (stepSpace ≤ length (now out)) ⌝ }
     requires { ⌜ from < actionCount (tableOf (now words)) + methodCount (tableOf (now words)) ⌝ }
     ensures { λ r. ⌜ upto (stepText bound form (tableOf (now (words .entry)))) (r .next) ≡ upto (stepText bound form (tableOf (now (words .entry)))) from ++ take (r .size) (now (out .exit)) ⌝ }
     ensures { λ r. ⌜ (from < r .next) × (r .next ≤ actionCount (tableOf (now (words .entry))) + methodCount (tableOf (now (words .entry)))) × (r .size ≤ length (now (out .exit))) × (length (now (out .exit)) ≡ length (now (out .entry))) ⌝ }
 {
     let steps = step_count(words);
-    let room = out.len() - 90176;
+    let room = out.len() - STEP_SPACE;
     let mut next = from;
     let mut size = 0;
     while next < steps {

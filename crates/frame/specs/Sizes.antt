@@ -1,11 +1,9 @@
 -- Room for the parts of the sections around the operators.
 use Prim.Native.Nat.{ℕ, _+_, _*_}
-use Rattle.rules.specs.Limits.{mostFacts, mostTasks, mostBound}
+use Rattle.rules.specs.Limits.{mostTasks}
+use Rattle.problem.specs.Sizes.{mostVariables}
 use Rattle.listing.specs.declared.Says.the-variants.{Holds}
 use Rattle.listing.specs.Listings.{listBytes}
-
-abbrev pub mostVariables : ℕ
-mostVariables = mostFacts + 1 + mostBound
 
 -- Seven bytes for the name of a height or a task, four for a value at the start.
 abbrev pub namesBytes : ℕ

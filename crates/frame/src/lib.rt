@@ -13,9 +13,10 @@ ghost use Rattle.rules.specs.Facts.{has as Facts·has};
 ghost use Rattle.rules.specs.Problems.{variableCount, factNames, heightNames, startValue, problemOf};
 ghost use Rattle.laws.specs.Steps.{variableText};
 ghost use Rattle.words.specs.Words.{tableOf, Held};
+ghost use Rattle.problem.specs.Sizes.{mostVariables};
 ghost use Rattle.text.specs.Appends.{Appends};
 ghost use Rattle.frame.specs.Frames.{labelled, opening, variable, positionNames, startLine, stateText, goalText};
-ghost use Rattle.frame.specs.Sizes.{mostVariables, namesBytes, valuesBytes, stateBytes, goalBytes};
+ghost use Rattle.frame.specs.Sizes.{namesBytes, valuesBytes, stateBytes, goalBytes};
 use listing::Says;
 
 // Text, a number of at most three digits, a line feed.

@@ -2,7 +2,7 @@ use Prim.Native.Nat.{_+_, _*_, _-_, _≤_}
 use mathlib.Core.Path.{_≡_, ap}
 use native.Mathlib.Omega.{arith}
 use Rattle.basics.specs.Lists.{upto}
-use Rattle.rules.specs.Sections.{variableCount, variableText}
+use Rattle.rules.specs.Problems.{variableCount}
 use Rattle.laws.proofs.TextLaws.{upto-more}
 use Rattle.words.specs.Words.{tableOf}
 use Rattle.text.specs.Appends.{Appends}
