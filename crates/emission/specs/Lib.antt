@@ -1,3 +1,3 @@
-pub mod Opened
+pub mod Inputs
 pub mod Parts
 pub mod Sizes

@@ -2,21 +2,19 @@
 ghost use mathlib.Core.Path.{_≡_};
 ghost use mathlib.Core.List.{_++_};
 ghost use Prim.Native.Nat.{_+_, _≤_, _<_};
-ghost use lib.ListN.{length, take, getD};
+ghost use lib.ListN.{length, take};
 ghost use Rattle.basics.specs.Lists.{upto};
 ghost use Rattle.rules.specs.Limits.{mostBound};
 ghost use Rattle.rules.specs.Tables.{actionCount, methodCount};
 ghost use Rattle.rules.specs.Problems.{variableCount};
-ghost use Rattle.rules.specs.Refusals.{wholeProblem};
 ghost use Rattle.laws.specs.Steps.{variableText, stepText, frontText};
-ghost use Rattle.words.specs.Words.{tableOf, Held};
+ghost use Rattle.words.specs.Words.{tableWords, tableOf, Held};
 ghost use Rattle.text.specs.Appends.{Appends};
 ghost use Rattle.template.specs.Sizes.{figureCount};
 ghost use Rattle.template.specs.Figures.{Figures};
-ghost use Rattle.emission.specs.Opened.{emitInput, Opened};
+ghost use Rattle.emission.specs.Inputs.{InputOpens};
 ghost use Rattle.emission.specs.Sizes.{variablesBytes, frontBytes, stepSpace, partBytes};
-use basics::Reply;
-use table::Onward;
+use opening::Opening;
 use template::FIGURE_BYTES;
 
 // Sizes, with the names that specs/Sizes has for them.
@@ -25,10 +23,10 @@ const STEP_SPACE: usize = template::STEP_BYTES + template::MARGIN;
 const PART_BYTES: usize = 524288;
 
 pub fn emit(input: &[u8]) {
-    let mut words = [0u64; 6147];
+    let mut words = [0u64; words::SIZE];
     match open_input(input, &mut words) {
-        Reply::Refused(number, place) => show_refusal(number, place),
-        Reply::Value(_) => show(
+        Opening::Refused(number, place) => show_refusal(number, place),
+        Opening::Opened => show(
             &words,
             report::byte(input, 0) as u64,
             report::byte(input, 1) as u64,
@@ -37,29 +35,14 @@ pub fn emit(input: &[u8]) {
 }
 
 // The first byte is the bound, the second the form, and all behind them the table.
-fn open_input(input: &[u8], words: &mut [u64]) -> Reply
-    requires { ⌜ 6147 ≤ length (now words) ⌝ }
-    ensures { λ r. ⌜ Opened (getD (now (input .entry)) 0 0) (getD (now (input .entry)) 1 0) (emitInput (now (input .entry))) r (now (words .exit)) ⌝ }
+fn open_input(input: &[u8], words: &mut [u64]) -> Opening
+    requires { ⌜ tableWords ≤ length (now words) ⌝ }
+    ensures { λ r. ⌜ InputOpens (now (input .entry)) r (now (words .exit)) ⌝ }
 {
     let bound = report::byte(input, 0) as u64;
     let form = report::byte(input, 1) as u64;
     let start = report::smaller(2, input.len());
-    open(bound, form, &input[start..], words)
-}
-
-// In the order of the refusals: bound, form, table.
-fn open(bound: u64, form: u64, table: &[u8], words: &mut [u64]) -> Reply
-    requires { ⌜ 6147 ≤ length (now words) ⌝ }
-    ensures { λ r. ⌜ Opened bound form (wholeProblem bound form (now (table .entry))) r (now (words .exit)) ⌝ }
-{
-    let why = console::order::early(bound, form, table.len());
-    if why != 0 {
-        return Reply::Refused(why, 0);
-    }
-    match table::read_table(table, words) {
-        Onward::Bad(why, at) => Reply::Refused(why, at as u64),
-        Onward::To(_) => Reply::Value(0),
-    }
+    opening::open(bound, form, &input[start..], 0, words)
 }
 
 fn show_refusal(number: u64, place: u64) {

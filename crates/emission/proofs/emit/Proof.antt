@@ -36,8 +36,8 @@ cast-show-2 c = search needs
 show-requires : tie.Need-show-requires
 show-requires c κs =
     let told = c .before .before .before in
-    let opened = rw (told .enum-told .given .1) at (told .before .before .before .open-input .ensures) in
-    (opened .0, omega (arith, opened .2, c .before .byte .ensures))
+    let usable = told .before .before .before .open-input .ensures .known (told .enum-told .given .1) in
+    (usable .held, omega (arith, usable .high, c .before .byte .ensures))
 
 returns : tie.Need-returns
 returns c = search needs

@@ -1,3 +1,6 @@
+use mathlib.Core.Path.{refl}
+use Rattle.rules.specs.Refusals.{wholeProblem}
+use Rattle.opening.proofs.OpeningLaws.{goes-on}
 use Rattle.report.proofs.InputLaws.{last-part}
 use borrow.Author.Needs.{needs}
 use Rattle.emission.proofs.open_input.Statement.{statement}
@@ -34,12 +37,14 @@ same-length : tie.Need-same-length
 same-length c = search needs
 
 returns : tie.Need-returns
+unfolding wholeProblem
 returns c =
-    let o = c .before .before in
-    let start = o .before .before .before .smaller in
-    let form = o .before .before .before .before in
+    let opening = c .before .before in
+    let start = opening .before .before .before .smaller in
+    let form = opening .before .before .before .before in
     let s = form .before .before .before .before .args .input .now in
-    rw (← form .before .byte .ensures, ← form .byte2 .ensures, ← last-part (start .result) 2 s (start .ensures)) (o .«open» .ensures)
+    let opens = rw (form .before .byte .ensures, form .byte2 .ensures, last-part (start .result) 2 s (start .ensures)) at (opening .«open» .ensures) in
+    record { whole = goes-on opens refl _; known = opens .known }
 
 pub open-input-spec : {M : Type 1} → statement M
 open-input-spec =
