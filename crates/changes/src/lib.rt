@@ -2,28 +2,13 @@
 ghost use mathlib.Core.Path.{_≡_};
 ghost use mathlib.Core.Bool.{cond};
 ghost use Prim.Native.Nat.{_+_, _≤_, _<_};
-ghost use lib.Bits.{bitOr};
 ghost use lib.Count.{ones};
 ghost use lib.ListN.{length};
-ghost use Rattle.rules.specs.Facts.{without};
 ghost use Rattle.basics.specs.Lists.{concat};
+ghost use Rattle.facts.specs.Sets.{setOf};
 ghost use Rattle.text.specs.Appends.{Appends};
 ghost use Rattle.changes.specs.Changes.{before, after, changePart, changeLines, prevailCount, effectCount};
-
-// The facts that prevail: those needed and not deleted.
-pub fn kept(needs: u64, dels: u64) -> u64
-    ensures { λ r. ⌜ r ≡ without needs dels ⌝ }
-{
-    needs ^ (needs & dels)
-}
-
-// The facts that change: those deleted, and those added and not needed.
-pub fn altered(needs: u64, adds: u64, dels: u64) -> u64
-    ensures { λ r. ⌜ r ≡ bitOr dels (without adds needs) ⌝ }
-{
-    let gained = adds ^ (adds & needs);
-    dels | gained
-}
+use facts::Set;
 
 // The value before: a needed fact holds, of any other nothing is said.
 fn put_before(out: &mut [u8], at: usize, needed: bool) -> usize
@@ -50,9 +35,9 @@ fn put_after(out: &mut [u8], at: usize, deleted: bool) -> usize
 }
 
 // How fact k changes, where the set has it.
-fn put_change(out: &mut [u8], at: usize, needs: u64, dels: u64, set: u64, k: u64) -> usize
+fn put_change(out: &mut [u8], at: usize, needs: Set, dels: Set, set: Set, k: u64) -> usize
     requires { ⌜ (at + 11 ≤ length (now out)) × (k < 64) ⌝ }
-    ensures { λ r. ⌜ Appends (now (out .entry)) at (changePart needs dels set k) (now (out .exit)) r ⌝ }
+    ensures { λ r. ⌜ Appends (now (out .entry)) at (changePart (setOf needs) (setOf dels) (setOf set) k) (now (out .exit)) r ⌝ }
     ensures { λ r. ⌜ r ≤ at + 11 ⌝ }
 {
     if !facts::has(set, k) {
@@ -64,9 +49,9 @@ fn put_change(out: &mut [u8], at: usize, needs: u64, dels: u64, set: u64, k: u64
 }
 
 // How the facts of a set change, of n facts in all.
-pub fn put_changes(out: &mut [u8], at: usize, needs: u64, dels: u64, set: u64, n: u64) -> usize
+pub fn put_changes(out: &mut [u8], at: usize, needs: Set, dels: Set, set: Set, n: u64) -> usize
     requires { ⌜ (at + 704 ≤ length (now out)) × (n ≤ 64) ⌝ }
-    ensures { λ r. ⌜ Appends (now (out .entry)) at (concat (changeLines n needs dels set)) (now (out .exit)) r ⌝ }
+    ensures { λ r. ⌜ Appends (now (out .entry)) at (concat (changeLines n (setOf needs) (setOf dels) (setOf set))) (now (out .exit)) r ⌝ }
     ensures { λ r. ⌜ r ≤ at + 704 ⌝ }
 {
     let mut next = at;
@@ -91,23 +76,23 @@ fn none_if(b: bool) -> u64
 }
 
 // How many lines prevail: those of a set's facts, and those of the stack that stay as they are.
-pub fn prevail_count(set: u64, stay: u64, task: u64, bottom: u64) -> u64
-    ensures { λ r. ⌜ r ≡ prevailCount (ones set) stay task bottom ⌝ }
+pub fn prevail_count(set: Set, stay: u64, task: u64, bottom: u64) -> u64
+    ensures { λ r. ⌜ r ≡ prevailCount (ones (setOf set)) stay task bottom ⌝ }
     ensures { λ r. ⌜ r ≤ 66 ⌝ }
 {
-    let facts = u64::count_ones(set) as u64;
+    let facts = facts::count(set);
     let top = one_if(stay == 1);
     let place = one_if(bottom == task);
     facts + top + place
 }
 
 // How many lines change something: the others, and one for each task but the last that is left.
-pub fn effect_count(set: u64, stay: u64, task: u64, bottom: u64) -> u64
+pub fn effect_count(set: Set, stay: u64, task: u64, bottom: u64) -> u64
     requires { ⌜ stay ≤ 8 ⌝ }
-    ensures { λ r. ⌜ r ≡ effectCount (ones set) stay task bottom ⌝ }
+    ensures { λ r. ⌜ r ≡ effectCount (ones (setOf set)) stay task bottom ⌝ }
     ensures { λ r. ⌜ r ≤ 73 ⌝ }
 {
-    let facts = u64::count_ones(set) as u64;
+    let facts = facts::count(set);
     let top = none_if(stay == 1);
     let place = none_if(bottom == task);
     let lines = facts + top + place;

@@ -5,22 +5,22 @@ use mathlib.Core.List.{List, [], _∷_, _++_, append-nil, append-assoc}
 use Prim.Native.Nat.{ℕ, zero, suc, _+_, _-_, _^_, _≤_, _<_}
 use native.Mathlib.Decide.{decLt, ℕ-discrete}
 use native.Mathlib.Omega.{arith}
-use lib.Bits.{or-lt}
+use lib.Bits.{bitOr, or-lt}
 use lib.Count.{ones}
 use lib.Dec.{eqb}
 use lib.ListN.{length, getD, length-append, length-map}
 use borrow.Author.Tests.{eq-eqb, ne-eqb}
 use Rattle.basics.specs.Lists.{rows, concat}
-use Rattle.rules.specs.Facts.{Join, membersOf}
+use Rattle.rules.specs.Facts.{Join, without, membersOf}
 use Rattle.basics.specs.Texts.{bytes, digits, line}
 use Rattle.rules.specs.Sections.{counted, valueLine, effectLine, factLine, kept, altered, topNext, bottomNext, pushLines, prevails, effects, operatorLines}
 use Rattle.laws.proofs.JoinSizes.{without-lt}
 use Rattle.laws.proofs.ListLaws.{rows-length}
 use Rattle.laws.proofs.MemberLaws.{members-ones}
 use Rattle.laws.proofs.TextLaws.{concat-append, concat-rows, upto-same}
-use Rattle.rows.specs.Rows.{rowAt}
+use Rattle.rows.specs.Rows.{rowAt, RowsFit}
 use Rattle.rows.specs.Stacks.{stackOf}
-use Rattle.rows.proofs.StackLaws.{stack-height}
+use Rattle.rows.proofs.StackLaws.{stack-height, stack-at}
 use Rattle.changes.specs.Changes.{changeLines}
 use Rattle.compose.specs.Pieces.{
   keptLines,
@@ -36,24 +36,9 @@ use Rattle.compose.specs.Pieces.{
   effectNumbers,
   Tasks,
 }
-use Rattle.compose.specs.RowTexts.{setsOf, Fit}
+use Rattle.compose.specs.RowTexts.{setsOf, rowLines, Fit}
 
 -- ---- the stack by its cells
-
--- The task in cell h, of n that are left.
-pub stack-at : (cells : List ℕ) (n h d : ℕ) → h < n → getD (stackOf cells n) (n - 1 - h) d ≡ getD cells h 0
-unfolding stackOf
-stack-at cells zero h d l = absurd (omega arith)
-stack-at cells (suc n) h d l =
-    elim (decLt h n) [
-      | yes m ↦
-          let e : suc n - 1 - h ≡ suc (n - 1 - h) = omega arith in
-          ap (λ (k : ℕ). getD (getD cells n 0 ∷ stackOf cells n) k d) e ∙ stack-at cells n h d m
-      | no m ↦
-          let e : suc n - 1 - h ≡ 0 = omega arith in
-          let k : n ≡ h = omega arith in
-          ap (λ (k : ℕ). getD (getD cells n 0 ∷ stackOf cells n) k d) e ∙ ap (λ (k : ℕ). getD cells k 0) k
-    ]
 
 -- The top stays where one task is left.
 top-same : (p stay : ℕ) → eqb (suc p + stay - 1) (suc p) ≡ eqb stay 1
@@ -157,7 +142,7 @@ module _ (top free : ℕ) (j : Join) (task : ℕ) (cells : List ℕ) (stay p bot
       ++ concat facts ++ unless-text (eqb stay 1) x i ++ unless-text (eqb bottom task) y i ++ push-text i)
 
   -- All of it.
-  pub operator-cut : (name : List ℕ) (cost : ℕ) → kept j < 2 ^ top → altered j < 2 ^ top
+  operator-cut : (name : List ℕ) (cost : ℕ) → kept j < 2 ^ top → altered j < 2 ^ top
       → (bytes "begin_operator\n" ++ line (name ∷ digits (suc p) ∷ []))
       ++ prevailText top (kept j) stay task bottom p
       ++ effectText top (j .needs) (j .dels) (altered j) stay task bottom cells p
@@ -195,11 +180,35 @@ few-numbers stay task bottom l = go (eqb stay 1) (eqb bottom task)
 -- ---- the sets of a row
 
 module _ {top free k : ℕ} {ops cells : List ℕ} (f : Fit top free k ops cells) where
-  pub kept-low : kept (setsOf (rowAt ops cells 0)) < 2 ^ top
+  kept-low : kept (setsOf (rowAt ops cells 0)) < 2 ^ top
   kept-low = without-lt top _ _ (f .needs) (f .dels)
 
-  pub altered-low : altered (setsOf (rowAt ops cells 0)) < 2 ^ top
+  altered-low : altered (setsOf (rowAt ops cells 0)) < 2 ^ top
   altered-low = or-lt top _ _ (f .dels) (without-lt top _ _ (f .adds) (f .needs))
 
   pub tasks-fit : Tasks (getD cells 9 0) cells
   tasks-fit = record { few = f .stay; room = omega (arith, f .room); low = f .left }
+
+  pub row-fits : RowsFit 1 ops cells
+  row-fits = record { in-words = f .words; in-cells = f .room }
+
+  -- How many tasks are left, as the row says it and as its cell does.
+  pub stay-read : (n : ℕ) → n ≡ length (rowAt ops cells 0 .rest) → n ≡ getD cells 9 0
+  stay-read n e = e ∙ stack-height cells (getD cells 9 0)
+
+  -- The text by what was read of the row.
+  pub row-cut : {needs adds dels cost task stay bottom : ℕ} → needs ≡ rowAt ops cells 0 .needs → adds ≡ rowAt ops cells 0 .adds → dels ≡ rowAt ops cells 0 .dels
+      → cost ≡ rowAt ops cells 0 .cost → task ≡ rowAt ops cells 0 .task → stay ≡ getD cells 9 0 → bottom ≡ bottomNext free (stackOf cells (getD cells 9 0))
+      → (name : List ℕ) (p : ℕ)
+      → (bytes "begin_operator\n" ++ line (name ∷ digits (suc p) ∷ []))
+      ++ prevailText top (without needs dels) stay task bottom p
+      ++ effectText top needs dels (bitOr dels (without adds needs)) stay task bottom cells p
+      ++ (line (digits cost ∷ []) ++ bytes "end_operator\n")
+      ≡ rowLines top free name (rowAt ops cells 0) (suc p)
+  row-cut {bottom = bottom} en ea ed ec et es eb name p =
+      let row = rowAt ops cells 0 in
+      (λ i. (bytes "begin_operator\n" ++ line (name ∷ digits (suc p) ∷ []))
+      ++ prevailText top (without (en i) (ed i)) (es i) (et i) bottom p
+      ++ effectText top (en i) (ed i) (bitOr (ed i) (without (ea i) (en i))) (es i) (et i) bottom cells p
+      ++ (line (digits (ec i) ∷ []) ++ bytes "end_operator\n"))
+      ∙ operator-cut top free (setsOf row) (row .task) cells (getD cells 9 0) p bottom eb name (row .cost) kept-low altered-low

@@ -11,12 +11,15 @@ ghost use Rattle.basics.specs.Texts.{bytes, digits, line};
 ghost use Rattle.rules.specs.Facts.{without};
 ghost use Rattle.rules.specs.Sections.{effectLine, bottomNext};
 ghost use Rattle.template.specs.Templates.{Drawn};
+ghost use Rattle.facts.specs.Sets.{setOf};
 ghost use Rattle.rows.specs.Stacks.{stackOf};
 ghost use Rattle.rows.specs.Rows.{rowAt};
 ghost use Rattle.changes.specs.Changes.{changeLines};
 ghost use Rattle.compose.specs.Pieces.{keptLines, topStays, taskStays, topMoves, taskMoves, pushes as Pieces·pushes, prevailText, effectText, prevailNumbers, effectNumbers, Tasks};
 ghost use Rattle.compose.specs.RowTexts.{rowLines, Fit};
 ghost use Rattle.compose.specs.Draws.{Space, Room, Draws};
+use facts::Set;
+use rows::row;
 use template::Pen;
 
 // Text in which no number moves.
@@ -111,9 +114,9 @@ fn ending(t: &mut [u8], pen: Pen, cost: u64) -> Pen
 }
 
 // How many lines prevail, and those of the facts.
-fn kept_lines(t: &mut [u8], pen: Pen, n: u64, set: u64, top: u64) -> Pen
+fn kept_lines(t: &mut [u8], pen: Pen, n: u64, set: Set, top: u64) -> Pen
     requires { ⌜ Space 388 (now t) pen × (n < 1000) × (top ≤ 64) ⌝ }
-    ensures { λ r. ⌜ ((lens offs : List ℕ) → Draws (now (t .entry)) lens offs pen (λ _. line (digits n ∷ []) ++ concat (keptLines top set)) 388 0 (now (t .exit)) lens offs r) ⌝ }
+    ensures { λ r. ⌜ ((lens offs : List ℕ) → Draws (now (t .entry)) lens offs pen (λ _. line (digits n ∷ []) ++ concat (keptLines top (setOf set))) 388 0 (now (t .exit)) lens offs r) ⌝ }
 {
     let lines = field_line(t, pen, b"", n);
     let next = text::put_members(t, lines.at, set, top);
@@ -125,9 +128,9 @@ fn kept_lines(t: &mut [u8], pen: Pen, n: u64, set: u64, top: u64) -> Pen
 }
 
 // How many lines change something, and those of the facts.
-fn change_lines(t: &mut [u8], pen: Pen, n: u64, needs: u64, dels: u64, set: u64, top: u64) -> Pen
+fn change_lines(t: &mut [u8], pen: Pen, n: u64, needs: Set, dels: Set, set: Set, top: u64) -> Pen
     requires { ⌜ Space 708 (now t) pen × (n < 1000) × (top ≤ 64) ⌝ }
-    ensures { λ r. ⌜ ((lens offs : List ℕ) → Draws (now (t .entry)) lens offs pen (λ _. line (digits n ∷ []) ++ concat (changeLines top needs dels set)) 708 0 (now (t .exit)) lens offs r) ⌝ }
+    ensures { λ r. ⌜ ((lens offs : List ℕ) → Draws (now (t .entry)) lens offs pen (λ _. line (digits n ∷ []) ++ concat (changeLines top (setOf needs) (setOf dels) (setOf set))) 708 0 (now (t .exit)) lens offs r) ⌝ }
 {
     let lines = field_line(t, pen, b"", n);
     let next = changes::put_changes(t, lines.at, needs, dels, set, top);
@@ -269,16 +272,16 @@ fn prevails(
     offs: &mut [usize],
     pen: Pen,
     top: u64,
-    needs: u64,
-    dels: u64,
+    needs: Set,
+    dels: Set,
     stay: u64,
     task: u64,
     bottom: u64,
 ) -> Pen
     requires { ⌜ Room 398 (prevailNumbers stay task bottom) (now t) (now lens) (now offs) pen × (top ≤ 64) × (task < 1000) ⌝ }
-    ensures { λ r. ⌜ Draws (now (t .entry)) (now (lens .entry)) (now (offs .entry)) pen (prevailText top (without needs dels) stay task bottom) 398 (prevailNumbers stay task bottom) (now (t .exit)) (now (lens .exit)) (now (offs .exit)) r ⌝ }
+    ensures { λ r. ⌜ Draws (now (t .entry)) (now (lens .entry)) (now (offs .entry)) pen (prevailText top (without (setOf needs) (setOf dels)) stay task bottom) 398 (prevailNumbers stay task bottom) (now (t .exit)) (now (lens .exit)) (now (offs .exit)) r ⌝ }
 {
-    let set = changes::kept(needs, dels);
+    let set = facts::kept(needs, dels);
     let n = changes::prevail_count(set, stay, task, bottom);
     let facts = kept_lines(t, pen, n, set, top);
     let place = top_stays(t, lens, offs, facts, top, stay);
@@ -292,18 +295,18 @@ fn effects(
     offs: &mut [usize],
     pen: Pen,
     top: u64,
-    needs: u64,
-    adds: u64,
-    dels: u64,
+    needs: Set,
+    adds: Set,
+    dels: Set,
     stay: u64,
     task: u64,
     bottom: u64,
     cells: &[u16],
 ) -> Pen
     requires { ⌜ Room 797 (effectNumbers stay task bottom) (now t) (now lens) (now offs) pen × (top ≤ 64) × (task < 1000) × (bottom < 1000) × Tasks stay (now cells) ⌝ }
-    ensures { λ r. ⌜ Draws (now (t .entry)) (now (lens .entry)) (now (offs .entry)) pen (effectText top needs dels (bitOr dels (without adds needs)) stay task bottom (now (cells .entry))) 797 (effectNumbers stay task bottom) (now (t .exit)) (now (lens .exit)) (now (offs .exit)) r ⌝ }
+    ensures { λ r. ⌜ Draws (now (t .entry)) (now (lens .entry)) (now (offs .entry)) pen (effectText top (setOf needs) (setOf dels) (bitOr (setOf dels) (without (setOf adds) (setOf needs))) stay task bottom (now (cells .entry))) 797 (effectNumbers stay task bottom) (now (t .exit)) (now (lens .exit)) (now (offs .exit)) r ⌝ }
 {
-    let set = changes::altered(needs, adds, dels);
+    let set = facts::altered(needs, adds, dels);
     let n = changes::effect_count(set, stay, task, bottom);
     let facts = change_lines(t, pen, n, needs, dels, set, top);
     let place = top_moves(t, lens, offs, facts, top, stay);
@@ -340,12 +343,12 @@ pub fn compose(
     ensures { λ r. ⌜ Drawn (now (t .exit)) (now (lens .exit)) (now (offs .exit)) r (λ p. rowLines top free (letter ∷ digits k) (rowAt (now (ops .entry)) (now (cells .entry)) 0) (suc p)) ⌝ }
     ensures { λ r. ⌜ (r .at + 3 * r .count ≤ 1408) × (length (now (t .exit)) ≡ length (now (t .entry))) ⌝ }
 {
-    let needs = ops[0];
-    let adds = ops[1];
-    let dels = ops[2];
-    let cost = ops[3];
-    let task = cells[8] as u64;
-    let stay = cells[9] as u64;
+    let needs = row::needs(ops, cells, 0);
+    let adds = row::adds(ops, cells, 0);
+    let dels = row::dels(ops, cells, 0);
+    let cost = row::cost(ops, cells, 0);
+    let task = row::task(ops, cells, 0);
+    let stay = row::left(ops, cells, 0) as u64;
     let bottom = bottom_of(free, cells);
     let start = Pen {
         at: 0,

@@ -5,6 +5,6 @@ use Rattle.rules.specs.declared.Verdict.{Verdict}
 use Rattle.rules.specs.declared.Verdict.the-variants.{Accepted, Refused}
 use Rattle.console.specs.Judged.{Left, Judged}
 
-pub judged : {f : ℕ} {s words cells : List ℕ} → Left f s words cells → (r : Verdict) → Judged f s r words cells
+pub judged : {f : ℕ} {s words ops cells : List ℕ} → Left f s words ops cells → (r : Verdict) → Judged f s r words ops cells
 judged h (Accepted cost operators steps) = h
 judged h (Refused number place) = tt

@@ -31,7 +31,7 @@ pub length-value : (x : Answer (List ℕ)) → valueOf itself (lengthOf x) ≡ v
 length-value (answer x) = refl
 length-value (refusal number place) = refl
 
-module _ (b f : ℕ) (s plan words cells : List ℕ) (c o k : ℕ) (e : checkPlan b f s plan ≡ accepted c o k) (h : Left f s words cells) where
+module _ (b f : ℕ) (s plan words ops cells : List ℕ) (c o k : ℕ) (e : checkPlan b f s plan ≡ accepted c o k) (h : Left f s words ops cells) where
   given : Given b f s (tableOf words) (h .table .0)
   given =
       let q = accepted-given b f s plan c o k e .2 in

@@ -9,11 +9,11 @@ use Rattle.rules.specs.Tables.{decode}
 use Rattle.words.specs.Words.{tableOf, Held}
 use Rattle.plan.specs.Ready.{StepsHeld}
 
-pub record Left (f : ℕ) (s words cells : List ℕ) : Type 0 where
+pub record Left (f : ℕ) (s words ops cells : List ℕ) : Type 0 where
   pub held : Held words
   pub table : (n : ℕ) × (decode s ≡ got (tableOf words) n)
-  pub steps : StepsHeld f (tableOf words) cells
+  pub steps : StepsHeld f (tableOf words) ops cells
 
-abbrev pub Judged : ℕ → List ℕ → Verdict → List ℕ → List ℕ → Type 0
-Judged f s (Accepted cost operators steps) words cells = Left f s words cells
-Judged f s (Refused number place) words cells = Unit {0}
+abbrev pub Judged : ℕ → List ℕ → Verdict → List ℕ → List ℕ → List ℕ → Type 0
+Judged f s (Accepted cost operators steps) words ops cells = Left f s words ops cells
+Judged f s (Refused number place) words ops cells = Unit {0}

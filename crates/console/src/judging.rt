@@ -4,6 +4,7 @@ ghost use Prim.Native.Nat.{_≤_};
 ghost use lib.ListN.{length};
 ghost use Rattle.rules.specs.Checks.{verdictOf};
 ghost use Rattle.rules.specs.Refusals.{checkPlan};
+ghost use Rattle.rows.specs.Sizes.{allWords, allCells};
 ghost use Rattle.plan.specs.Ready.{Few};
 ghost use Rattle.console.specs.Judged.{Judged};
 use rules::Verdict;
@@ -19,9 +20,9 @@ pub fn judge(
     ops: &mut [u64],
     cells: &mut [u16],
 ) -> Verdict
-    requires { ⌜ (6147 ≤ length (now words)) × (3068 ≤ length (now ops)) × (9204 ≤ length (now cells)) ⌝ }
+    requires { ⌜ (6147 ≤ length (now words)) × (allWords ≤ length (now ops)) × (allCells ≤ length (now cells)) ⌝ }
     ensures { λ r. ⌜ verdictOf r ≡ checkPlan bound form (now (table .entry)) (now (plan .entry)) ⌝ }
-    ensures { λ r. ⌜ Few r × Judged form (now (table .entry)) r (now (words .exit)) (now (cells .exit)) ⌝ }
+    ensures { λ r. ⌜ Few r × Judged form (now (table .entry)) r (now (words .exit)) (now (ops .exit)) (now (cells .exit)) ⌝ }
 {
     let why = crate::order::early(bound, form, table.len());
     if why != 0 {

@@ -6,7 +6,7 @@ use Prim.Native.Nat.{ℕ, suc, _+_, _≤_, _<_, _^_}
 use native.Mathlib.Numerals.{add-one}
 use native.Mathlib.Omega.{arith}
 use borrow.Author.Tests.{lt-ltb, le-ltb, eq-eqb, ne-eqb}
-use lib.Count.{ones, ones-le}
+use lib.Count.{ones}
 use lib.Dec.{ltb, eqb}
 use lib.Pow.{pow-pos}
 use lib.ListN.{length, length-append, length-map}
@@ -105,9 +105,6 @@ state-lines t b = ap (λ (x : List ℕ). bytes "0\nbegin_state\n" ++ x ++ bytes 
 
 goal-fits : (t : Table) → Valid t → goalFacts t < 2 ^ factCount t
 goal-fits t h = omega (arith, h .head .goal, pow-pos (factCount t))
-
-pub goal-few : (t : Table) → Valid t → (g : ℕ) → g ≡ goalFacts t → ones g ≤ 64
-goal-few t h g e = rw e (omega (arith, ones-le (factCount t) (goalFacts t) (goal-fits t h), h .head .facts))
 
 -- A goal has one line for each of its facts, and one more.
 pub goal-count : (t : Table) → Valid t → length (goalLines t) ≡ ones (goalFacts t) + 1

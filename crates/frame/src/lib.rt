@@ -187,7 +187,7 @@ fn put_goal(words: &[u64], out: &mut [u8], at: usize) -> usize
 {
     let facts = words::fact_count(words);
     let goal = words::goal_facts(words);
-    let count = u64::count_ones(goal) as u64 + 1;
+    let count = facts::count(goal) + 1;
     let lines = put_line(out, at, b"begin_goal\n", count);
     let top = text::put_members(out, lines, goal, facts);
     let end = text::put_field(out, top, b"", facts);

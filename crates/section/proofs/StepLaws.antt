@@ -3,7 +3,7 @@ use mathlib.Core.Path.{_≡_, sym, ap, _∙_}
 use mathlib.Core.List.{List}
 use Prim.Native.Nat.{ℕ, suc, _+_, _≤_, _<_}
 use native.Mathlib.Omega.{arith}
-use lib.ListN.{length, getD}
+use lib.ListN.{length}
 use Rattle.basics.specs.Lists.{upto}
 use Rattle.rules.specs.Tables.{Table, factCount, taskCount, actionCount, methodCount}
 use Rattle.rules.specs.Operators.{positions}
@@ -15,6 +15,7 @@ use Rattle.laws.proofs.StepSizes.{positions-low}
 use Rattle.template.specs.declared.Pen.{Pen}
 use Rattle.template.specs.Templates.{Drawn, rendered}
 use Rattle.template.proofs.TemplateLaws.{drawn-is}
+use Rattle.rows.specs.Sizes.{rowWords, rowCells}
 use Rattle.rows.specs.Rows.{Row, rowAt, rowOf}
 use Rattle.compose.specs.RowTexts.{Fit, rowLines}
 use Rattle.compose.proofs.FitLaws.{row-lines, row-fit}
@@ -41,22 +42,22 @@ pub drawn-as : {facts none top free : ℕ} {label name s lens offs : List ℕ} {
 drawn-as r p q u d = drawn-is d (λ n. λ j. rowLines (p j) (q j) (u j) r (suc n))
 
 module _ (b f : ℕ) (t : Table) (i : ℕ) (ops cells : List ℕ) (e : rowAt ops cells 0 ≡ rowOf b f t (stepAt t i)) where
-  pub step-fit : Valid t → i < actionCount t + methodCount t → length ops ≡ 4 → length cells ≡ 12 → Fit (factCount t) (taskCount t) i ops cells
+  pub step-fit : Valid t → i < actionCount t + methodCount t → length ops ≡ rowWords → length cells ≡ rowCells → Fit (factCount t) (taskCount t) i ops cells
   step-fit v l p q = row-fit b f t i i ops cells v l (omega (arith, v .head .actions, v .head .methods)) e (omega arith) (omega arith)
 
   -- Its highest position.
-  step-count : getD cells 11 0 ≡ positions b f t (stepAt t i)
+  step-count : rowAt ops cells 0 .last ≡ positions b f t (stepAt t i)
   step-count = ap (λ (r : Row). r .last) e
 
-  pub step-few : Valid t → i < actionCount t + methodCount t → getD cells 11 0 ≤ b
+  pub step-few : Valid t → i < actionCount t + methodCount t → rowAt ops cells 0 .last ≤ b
   step-few v l = omega (arith, step-count, positions-low f t v i l b)
 
   module _ {s lens offs : List ℕ} {pen : Pen} (d : Drawn s lens offs pen (λ p. rowLines (factCount t) (taskCount t) (nameOf (stepAt t i)) (rowAt ops cells 0) (suc p))) where
     pub operator-drawn : (p : ℕ) → rendered s lens offs pen p ≡ operatorText f t (record { what = stepAt t i; at = suc p })
     operator-drawn p = d .text p ∙ row-lines b f t (stepAt t i) ops cells (suc p) e
 
-    pub step-drawn : stepText b f t i ≡ upto (rendered s lens offs pen) (getD cells 11 0)
+    pub step-drawn : (n : ℕ) → n ≡ rowAt ops cells 0 .last → stepText b f t i ≡ upto (rendered s lens offs pen) n
     unfolding stepText
-    step-drawn =
-        ap (upto (λ p. operatorText f t (record { what = stepAt t i; at = suc p }))) (sym step-count)
-        ∙ upto-same _ _ (getD cells 11 0) (λ p l. sym (operator-drawn p))
+    step-drawn n q =
+        ap (upto (λ p. operatorText f t (record { what = stepAt t i; at = suc p }))) (sym (q ∙ step-count))
+        ∙ upto-same _ _ n (λ p l. sym (operator-drawn p))

@@ -17,6 +17,7 @@ ghost use Rattle.compose.specs.RowTexts.{Fit, rowLines};
 ghost use Rattle.section.specs.Chosen.{Begins};
 use basics::Reply;
 use problem::Found;
+use rows::row;
 use template::Pen;
 
 // The operators of step i as one template, from its row.
@@ -59,14 +60,14 @@ pub fn put_operators(
     ensures { λ r. ⌜ Appends (now (out .entry)) at (stepText bound form (tableOf (now (words .entry))) i) (now (out .exit)) r ⌝ }
     ensures { λ r. ⌜ r ≤ at + 90112 ⌝ }
 {
-    let mut ops = [0u64; 4];
-    let mut cells = [0u16; 12];
+    let mut ops = [0u64; row::WORDS];
+    let mut cells = [0u16; row::CELLS];
     rows::one_row(words, bound, form, i, &mut ops, &mut cells);
     let mut t = [0u8; 2112];
     let mut lens = [0usize; 12];
     let mut offs = [0usize; 12];
     let pen = compose_step(words, i, &ops, &cells, &mut t, &mut lens, &mut offs);
-    let count = cells[11] as usize;
+    let count = row::last(&ops, &cells, 0) as usize;
     template::put_positions(out, at, &t, &lens, &offs, figures, pen, count)
 }
 
@@ -79,8 +80,8 @@ fn put_operator(words: &[u64], bound: u64, form: u64, i: usize, p: usize, space:
 {
     let mut figures = [0u8; 2048];
     template::fill_figures(&mut figures);
-    let mut ops = [0u64; 4];
-    let mut cells = [0u16; 12];
+    let mut ops = [0u64; row::WORDS];
+    let mut cells = [0u16; row::CELLS];
     rows::one_row(words, bound, form, i, &mut ops, &mut cells);
     let mut t = [0u8; 2112];
     let mut lens = [0usize; 12];

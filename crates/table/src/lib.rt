@@ -1,6 +1,6 @@
 // Reads a table: a row of numbers, each checked against its range.
+use facts::Action;
 use numbers::Num;
-use words::Action;
 ghost use mathlib.Core.Path.{_≡_};
 ghost use Prim.Native.Nat.{_+_, _-_, _*_, _^_, _≤_, _<_};
 ghost use lib.ListN.{length, take};
@@ -28,15 +28,9 @@ fn read_action(s: &[u8], at: usize, top: u64) -> OneAction
                 Num::Bad(why, p) => OneAction::Bad(why, p),
                 Num::Got(dels, p3) => match numbers::field(s, p3, 0, 65535, 7) {
                     Num::Bad(why, p) => OneAction::Bad(why, p),
-                    Num::Got(cost, p4) => OneAction::Got(
-                        Action {
-                            needs,
-                            adds,
-                            dels,
-                            cost,
-                        },
-                        p4,
-                    ),
+                    Num::Got(cost, p4) => {
+                        OneAction::Got(facts::action_of(needs, adds, dels, cost), p4)
+                    }
                 },
             },
         },

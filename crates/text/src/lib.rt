@@ -8,8 +8,10 @@ ghost use Rattle.basics.specs.Lists.{concat};
 ghost use Rattle.rules.specs.Facts.{membersOf};
 ghost use Rattle.basics.specs.Texts.{digits};
 ghost use Rattle.rules.specs.Sections.{valueLine};
+ghost use Rattle.facts.specs.Sets.{setOf};
 ghost use Rattle.text.specs.Appends.{Appends};
 ghost use Rattle.text.specs.Members.{memberLine};
+use facts::Set;
 
 // Bytes that are known to fit; nothing else changes.
 pub fn copy(out: &mut [u8], at: usize, s: &[u8])
@@ -66,9 +68,9 @@ pub fn put_field(out: &mut [u8], at: usize, s: &[u8], n: u64) -> usize
 }
 
 // The line that says that fact k holds, where the set has it.
-fn put_member(out: &mut [u8], at: usize, set: u64, k: u64) -> usize
+fn put_member(out: &mut [u8], at: usize, set: Set, k: u64) -> usize
     requires { ⌜ (at + 6 ≤ length (now out)) × (k < 64) ⌝ }
-    ensures { λ r. ⌜ Appends (now (out .entry)) at (memberLine set k) (now (out .exit)) r ⌝ }
+    ensures { λ r. ⌜ Appends (now (out .entry)) at (memberLine (setOf set) k) (now (out .exit)) r ⌝ }
     ensures { λ r. ⌜ r ≤ at + 6 ⌝ }
 {
     if facts::has(set, k) {
@@ -79,9 +81,9 @@ fn put_member(out: &mut [u8], at: usize, set: u64, k: u64) -> usize
 }
 
 // The lines that say that the facts of a set hold, of n facts in all.
-pub fn put_members(out: &mut [u8], at: usize, set: u64, n: u64) -> usize
+pub fn put_members(out: &mut [u8], at: usize, set: Set, n: u64) -> usize
     requires { ⌜ (at + 384 ≤ length (now out)) × (n ≤ 64) ⌝ }
-    ensures { λ r. ⌜ Appends (now (out .entry)) at (concat (map (λ k. valueLine k 0) (membersOf n set))) (now (out .exit)) r ⌝ }
+    ensures { λ r. ⌜ Appends (now (out .entry)) at (concat (map (λ k. valueLine k 0) (membersOf n (setOf set)))) (now (out .exit)) r ⌝ }
     ensures { λ r. ⌜ r ≤ at + 384 ⌝ }
 {
     let mut next = at;

@@ -5,7 +5,7 @@ use lib.ListN.{length, getD}
 use Rattle.basics.specs.Lists.{rows}
 use Rattle.rules.specs.Tables.{Header, Action, Method, Table}
 use Rattle.laws.specs.Valid.{Valid}
-use Rattle.words.specs.declared.Action.{Action as ActionInCode}
+use Rattle.facts.specs.Sets.{setWords, setAt, actionWords}
 
 abbrev pub headerOf : List ℕ → Header
 headerOf w =
@@ -15,20 +15,16 @@ headerOf w =
       abstracts = getD w 2 0;
       methods = getD w 3 0;
       start = getD w 4 0;
-      init = getD w 5 0;
-      goal = getD w 6 0;
+      init = setAt w 5;
+      goal = setAt w 6;
     }
 
--- The action in the four words from b on.
+-- The action in the words from b on.
 abbrev pub actionAt : List ℕ → ℕ → Action
-actionAt w b = record { needs = getD w b 0; adds = getD w (b + 1) 0; dels = getD w (b + 2) 0; cost = getD w (b + 3) 0 }
+actionAt w b = record { needs = setAt w b; adds = setAt w (b + setWords); dels = setAt w (b + 2 * setWords); cost = getD w (b + 3 * setWords) 0 }
 
 abbrev pub actionOf : List ℕ → ℕ → Action
-actionOf w k = actionAt w (7 + 4 * k)
-
--- What the code's action says.
-abbrev pub actionRead : ActionInCode → Action
-actionRead a = record { needs = a .needs; adds = a .adds; dels = a .dels; cost = a .cost }
+actionOf w k = actionAt w (7 + actionWords * k)
 
 -- The word j places after b.
 abbrev pub cellOf : ℕ → List ℕ → ℕ → ℕ

@@ -1,4 +1,5 @@
 use borrow.Author.Needs.{needs}
+use Rattle.facts.specs.Sets.{setOf}
 use mathlib.Core.Path.{sym, _∙_}
 use native.Mathlib.Omega.{arith}
 use borrow.Author.Tests.{not-true, not-false}
@@ -14,7 +15,7 @@ returns : tie.Need-returns
 returns c =
     let h = c .before in
     let a = c .before .before .before .args in
-    (appends-is (change-missing (a .needs) (a .dels) (a .set) (a .k) (sym (h .has .ensures) ∙ not-true _ (c .if1 .taken))) (appends-none _ _), search needs)
+    (appends-is (change-missing (setOf (a .needs)) (setOf (a .dels)) (setOf (a .set)) (a .k) (sym (h .has .ensures) ∙ not-true _ (c .if1 .taken))) (appends-none _ _), search needs)
 
 slice-aggregate-put-field : tie.Need-slice-aggregate-put-field
 slice-aggregate-put-field c = search needs
@@ -44,7 +45,7 @@ returns-2 c =
     let f = c .before .before .before .before .before .before .before .before .before .before .before .before in
     let t = c .before .before .before .before .before .before .before .before .before .before .before .before .before .before .before in
     let a = c .before .before .before .before .before .before .before .before .before .before .before .before .before .before .before .before .before .before .args in (
-      appends-is (change-there (a .needs) (a .dels) (a .set) (a .k) _ _ (sym (t .before .has .ensures) ∙ not-false _ (t .if1 .left)) (m .before .has2 .ensures) (e .before .has3 .ensures))
+      appends-is (change-there (setOf (a .needs)) (setOf (a .dels)) (setOf (a .set)) (a .k) _ _ (sym (t .before .has .ensures) ∙ not-false _ (t .if1 .left)) (m .before .has2 .ensures) (e .before .has3 .ensures))
           (f .put-field .ensures .0 ▸ m .put-before .ensures .0 ▸ e .put-after .ensures .0),
       omega (arith, f .put-field .ensures .1, m .put-before .ensures .1, e .put-after .ensures .1),
     )

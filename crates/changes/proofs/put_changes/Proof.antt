@@ -1,4 +1,5 @@
 use borrow.Author.Needs.{needs}
+use Rattle.facts.specs.Sets.{setOf}
 use Prim.Native.Nat.{_+_, _*_, _-_, _≤_}
 use mathlib.Core.Path.{_≡_, ap, _∙_}
 use native.Mathlib.Omega.{arith}
@@ -11,7 +12,7 @@ use Rattle.changes.proofs.put_changes.Statement.{statement}
 use Rattle.changes.proofs.put_changes.Tie as tie
 
 abbrev Inv-loop : tie.InvT-loop
-Inv-loop out₀ at needs dels set n next₀ k₀ out next k = Appends out₀ at (upto (changePart needs dels set) k) out next × (k ≤ n) × (next ≤ at + 11 * k)
+Inv-loop out₀ at needs dels set n next₀ k₀ out next k = Appends out₀ at (upto (changePart (setOf needs) (setOf dels) (setOf set)) k) out next × (k ≤ n) × (next ≤ at + 11 * k)
 
 abbrev μ-loop : tie.MeasureT-loop
 μ-loop out₀ at needs dels set n next₀ k₀ out next k = n - k
@@ -50,7 +51,7 @@ returns c =
     let l = c .before in
     let a = l .before .before .args in
     let e : a .n ≡ l .loop .k = omega arith in
-    (appends-is (concat-members (changeLine (a .needs) (a .dels)) (a .n) (a .set) ∙ ap (upto _) e) (l .loop .inv .0), omega arith)
+    (appends-is (concat-members (changeLine (setOf (a .needs)) (setOf (a .dels))) (a .n) (setOf (a .set)) ∙ ap (upto _) e) (l .loop .inv .0), omega arith)
 
 pub put-changes-spec : {M : Type 1} → statement M
 put-changes-spec =

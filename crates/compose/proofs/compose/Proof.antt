@@ -1,38 +1,33 @@
+use mathlib.Core.Path.{sym, subst}
 use mathlib.Core.List.{[], _∷_}
+use Prim.Native.Nat.{ℕ}
 use native.Mathlib.Omega.{arith}
+use borrow.Author.Needs.{needs}
 use Rattle.basics.specs.Texts.{digits}
 use Rattle.template.proofs.TemplateLaws.{drawn-none, drawn-is}
-use Rattle.rows.specs.Rows.{rowAt}
-use Rattle.compose.specs.RowTexts.{setsOf}
+use Rattle.compose.specs.Pieces.{Tasks}
 use Rattle.compose.proofs.DrawLaws.{_▹_, space-after, room-less, room-after, room-all}
-use Rattle.compose.proofs.LineLaws.{operator-cut, few-numbers, kept-low, altered-low, tasks-fit}
-use lib.ListN.{getD}
+use Rattle.compose.proofs.LineLaws.{row-fits, stay-read, row-cut, few-numbers, tasks-fit}
 use Rattle.compose.proofs.compose.Statement.{statement}
 use Rattle.compose.proofs.compose.Tie as tie
 
-shared-slice-read-needs : tie.Need-shared-slice-read-needs
-shared-slice-read-needs c = omega (arith, c .before .before .before .before .before .before .pre .0 .words)
+needs-requires : tie.Need-needs-requires
+needs-requires c κs = row-fits (c .before .before .before .before .before .pre .0)
 
-shared-slice-read-adds : tie.Need-shared-slice-read-adds
-shared-slice-read-adds c = omega (arith, c .before .before .before .before .before .before .before .pre .0 .words)
+adds-requires : tie.Need-adds-requires
+adds-requires c κs = row-fits (c .before .before .before .before .before .before .pre .0)
 
-shared-slice-read-dels : tie.Need-shared-slice-read-dels
-shared-slice-read-dels c = omega (arith, c .before .before .before .before .before .before .before .before .pre .0 .words)
+dels-requires : tie.Need-dels-requires
+dels-requires c κs = row-fits (c .before .before .before .before .before .before .before .pre .0)
 
-shared-slice-read-cost : tie.Need-shared-slice-read-cost
-shared-slice-read-cost c = omega (arith, c .before .before .before .before .before .before .before .before .before .pre .0 .words)
+cost-requires : tie.Need-cost-requires
+cost-requires c κs = row-fits (c .before .before .before .before .before .before .before .before .pre .0)
 
-shared-slice-read-task : tie.Need-shared-slice-read-task
-shared-slice-read-task c = omega (arith, c .before .before .before .before .before .before .before .before .before .before .pre .0 .room)
+task-requires : tie.Need-task-requires
+task-requires c κs = row-fits (c .before .before .before .before .before .before .before .before .before .pre .0)
 
-cast-task : tie.Need-cast-task
-cast-task c = omega (arith, c .before .before .before .before .before .before .before .before .before .before .pre .0 .task)
-
-shared-slice-read-stay : tie.Need-shared-slice-read-stay
-shared-slice-read-stay c = omega (arith, c .before .before .before .before .before .before .before .before .before .before .before .pre .0 .room)
-
-cast-stay : tie.Need-cast-stay
-cast-stay c = omega (arith, c .before .before .before .before .before .before .before .before .before .before .before .pre .0 .stay)
+left-requires : tie.Need-left-requires
+left-requires c κs = row-fits (c .before .before .before .before .before .before .before .before .before .before .pre .0)
 
 bottom-of-requires : tie.Need-bottom-of-requires
 bottom-of-requires c κs =
@@ -47,74 +42,54 @@ opening-requires c κs =
 
 prevails-requires : tie.Need-prevails-requires
 prevails-requires c κs =
-    let o = c .before .before .before .before .before .before .before .before .before in
-    let b = o .before .before .before .before in
-    let s = b .before .before .before .before .before .before .before .before .before .before .before .before in
+    let s = c .before .before .before .before .before .before .before .before .before .before .before .before .before .before .before .before .before .before .before .before .before .before .before .before .before in
     let a = s .args in
     let f = s .pre .0 in
-    let n = few-numbers (getD (a .cells .now) 9 0) (getD (a .cells .now) 8 0) (b .bottom-of .result) (f .stay) in
-    (room-after (room-all (a .t .now) (a .lens .now) (a .offs .now) (s .pre .1)) (o .opening .ensures) (omega arith) (omega (arith, n)), f .facts, f .task)
+    let n = few-numbers (c .before .before .before .before .before .before .before .before .before .before .before .before .before .before .left .result) (c .before .before .before .before .before .before .before .before .before .before .before .before .before .before .before .task .result) (c .before .before .before .before .before .before .before .before .before .before .before .before .before .bottom-of .result) (omega (arith, f .stay, stay-read f _ (c .before .before .before .before .before .before .before .before .before .before .before .before .before .before .left .ensures))) in
+    (room-after (room-all (a .t .now) (a .lens .now) (a .offs .now) (s .pre .1)) (c .before .before .before .before .before .before .before .before .before .opening .ensures) (omega arith) (omega (arith, n)), f .facts, omega (arith, f .task, c .before .before .before .before .before .before .before .before .before .before .before .before .before .before .before .task .ensures))
 
 effects-requires : tie.Need-effects-requires
 effects-requires c κs =
-    let p = c .before .before .before .before .before .before .before .before .before in
-    let o = p .before .before .before .before .before .before .before .before .before .before in
-    let b = o .before .before .before .before in
-    let s = b .before .before .before .before .before .before .before .before .before .before .before .before in
+    let s = c .before .before .before .before .before .before .before .before .before .before .before .before .before .before .before .before .before .before .before .before .before .before .before .before .before .before .before .before .before .before .before .before .before .before .before in
     let a = s .args in
     let f = s .pre .0 in
-    let n = few-numbers (getD (a .cells .now) 9 0) (getD (a .cells .now) 8 0) (b .bottom-of .result) (f .stay) in (
-      room-after (room-all (a .t .now) (a .lens .now) (a .offs .now) (s .pre .1)) (o .opening .ensures ▹ p .prevails .ensures) (omega arith) (omega (arith, n)),
+    let stay = stay-read f _ (c .before .before .before .before .before .before .before .before .before .before .before .before .before .before .before .before .before .before .before .before .before .before .before .before .left .ensures) in
+    let n = few-numbers (c .before .before .before .before .before .before .before .before .before .before .before .before .before .before .before .before .before .before .before .before .before .before .before .before .left .result) (c .before .before .before .before .before .before .before .before .before .before .before .before .before .before .before .before .before .before .before .before .before .before .before .before .before .task .result) (c .before .before .before .before .before .before .before .before .before .before .before .before .before .before .before .before .before .before .before .before .before .before .before .bottom-of .result) (omega (arith, f .stay, stay)) in (
+      room-after (room-all (a .t .now) (a .lens .now) (a .offs .now) (s .pre .1)) (c .before .before .before .before .before .before .before .before .before .before .before .before .before .before .before .before .before .before .before .opening .ensures ▹ c .before .before .before .before .before .before .before .before .before .prevails .ensures) (omega arith) (omega (arith, n)),
       f .facts,
-      f .task,
-      b .bottom-of .ensures .1,
-      tasks-fit f,
+      omega (arith, f .task, c .before .before .before .before .before .before .before .before .before .before .before .before .before .before .before .before .before .before .before .before .before .before .before .before .before .task .ensures),
+      c .before .before .before .before .before .before .before .before .before .before .before .before .before .before .before .before .before .before .before .before .before .before .before .bottom-of .ensures .1,
+      subst (λ (m : ℕ). Tasks m (a .cells .now)) (sym stay) (tasks-fit f),
     )
 
 ending-requires : tie.Need-ending-requires
 ending-requires c κs =
-    let e = c .before .before .before .before .before .before .before in
-    let p = e .before .before .before .before .before .before .before .before .before .before in
-    let o = p .before .before .before .before .before .before .before .before .before .before in
-    let s = o .before .before .before .before .before .before .before .before .before .before .before .before .before .before .before .before in
+    let s = c .before .before .before .before .before .before .before .before .before .before .before .before .before .before .before .before .before .before .before .before .before .before .before .before .before .before .before .before .before .before .before .before .before .before .before .before .before .before .before .before .before .before .before in
     let a = s .args in
-    space-after (room-all (a .t .now) (a .lens .now) (a .offs .now) (s .pre .1) .space) (o .opening .ensures ▹ p .prevails .ensures ▹ e .effects .ensures) (omega arith)
+    space-after (room-all (a .t .now) (a .lens .now) (a .offs .now) (s .pre .1) .space) (c .before .before .before .before .before .before .before .before .before .before .before .before .before .before .before .before .before .before .before .before .before .before .before .before .before .before .before .opening .ensures ▹ c .before .before .before .before .before .before .before .before .before .before .before .before .before .before .before .before .before .prevails .ensures ▹ c .before .before .before .before .before .before .before .effects .ensures) (omega arith)
 
 same-length : tie.Need-same-length
 same-length c =
-    let e = c .before .before .before .before .before .before .before .before .before .before in
-    let p = e .before .before .before .before .before .before .before .before .before .before in
-    let o = p .before .before .before .before .before .before .before .before .before .before in
-    (o .opening .ensures ▹ p .prevails .ensures ▹ e .effects .ensures ▹ c .before .before .ending .ensures _ _) .size
+    (c .before .before .before .before .before .before .before .before .before .before .before .before .before .before .before .before .before .before .before .before .before .before .before .before .before .before .before .before .before .before .opening .ensures ▹ c .before .before .before .before .before .before .before .before .before .before .before .before .before .before .before .before .before .before .before .before .prevails .ensures ▹ c .before .before .before .before .before .before .before .before .before .before .effects .ensures ▹ c .before .before .ending .ensures _ _) .size
 
 same-length-2 : tie.Need-same-length-2
 same-length-2 c =
-    let e = c .before .before .before .before .before .before .before .before .before .before in
-    let p = e .before .before .before .before .before .before .before .before .before .before in
-    (p .before .before .before .before .before .before .before .before .before .before .opening .ensures ▹ p .prevails .ensures ▹ e .effects .ensures) .lengths
+    (c .before .before .before .before .before .before .before .before .before .before .before .before .before .before .before .before .before .before .before .before .before .before .before .before .before .before .before .before .before .before .opening .ensures ▹ c .before .before .before .before .before .before .before .before .before .before .before .before .before .before .before .before .before .before .before .before .prevails .ensures ▹ c .before .before .before .before .before .before .before .before .before .before .effects .ensures) .lengths
 
 same-length-3 : tie.Need-same-length-3
 same-length-3 c =
-    let e = c .before .before .before .before .before .before .before .before .before .before in
-    let p = e .before .before .before .before .before .before .before .before .before .before in
-    (p .before .before .before .before .before .before .before .before .before .before .opening .ensures ▹ p .prevails .ensures ▹ e .effects .ensures) .offsets
+    (c .before .before .before .before .before .before .before .before .before .before .before .before .before .before .before .before .before .before .before .before .before .before .before .before .before .before .before .before .before .before .opening .ensures ▹ c .before .before .before .before .before .before .before .before .before .before .before .before .before .before .before .before .before .before .before .before .prevails .ensures ▹ c .before .before .before .before .before .before .before .before .before .before .effects .ensures) .offsets
 
 returns : tie.Need-returns
 returns c =
-    let e = c .before .before .before .before .before .before .before .before .before .before in
-    let p = e .before .before .before .before .before .before .before .before .before .before in
-    let o = p .before .before .before .before .before .before .before .before .before .before in
-    let b = o .before .before .before .before in
-    let s = b .before .before .before .before .before .before .before .before .before .before .before .before in
-    let f = s .pre .0 in
+    let s = c .before .before .before .before .before .before .before .before .before .before .before .before .before .before .before .before .before .before .before .before .before .before .before .before .before .before .before .before .before .before .before .before .before .before .before .before .before .before .before .before .before .before .before .before .before .before in
     let a = s .args in
-    let row = rowAt (a .ops .now) (a .cells .now) 0 in
-    let stay = getD (a .cells .now) 9 0 in
-    let d = o .opening .ensures ▹ p .prevails .ensures ▹ e .effects .ensures ▹ c .before .before .ending .ensures _ _ in
-    let bottom = b .bottom-of in
-    let n = few-numbers stay (row .task) (bottom .result) (f .stay) in (
+    let f = s .pre .0 in
+    let stay = stay-read f _ (c .before .before .before .before .before .before .before .before .before .before .before .before .before .before .before .before .before .before .before .before .before .before .before .before .before .before .before .before .before .before .before .before .before .before .before .left .ensures) in
+    let d = c .before .before .before .before .before .before .before .before .before .before .before .before .before .before .before .before .before .before .before .before .before .before .before .before .before .before .before .before .before .before .opening .ensures ▹ c .before .before .before .before .before .before .before .before .before .before .before .before .before .before .before .before .before .before .before .before .prevails .ensures ▹ c .before .before .before .before .before .before .before .before .before .before .effects .ensures ▹ c .before .before .ending .ensures _ _ in
+    let n = few-numbers (c .before .before .before .before .before .before .before .before .before .before .before .before .before .before .before .before .before .before .before .before .before .before .before .before .before .before .before .before .before .before .before .before .before .before .before .left .result) (c .before .before .before .before .before .before .before .before .before .before .before .before .before .before .before .before .before .before .before .before .before .before .before .before .before .before .before .before .before .before .before .before .before .before .before .before .task .result) (c .before .before .before .before .before .before .before .before .before .before .before .before .before .before .before .before .before .before .before .before .before .before .before .before .before .before .before .before .before .before .before .before .before .before .bottom-of .result) (omega (arith, f .stay, stay)) in (
       drawn-is (d .drawn (λ p. []) (drawn-none (a .t .now) (a .lens .now) (a .offs .now)))
-          (λ p. operator-cut (a .top) (a .free) (setsOf row) (row .task) (a .cells .now) stay p (bottom .result) (bottom .ensures .0) (a .letter ∷ digits (a .k)) (row .cost) (kept-low f) (altered-low f)),
+          (row-cut f (c .before .before .before .before .before .before .before .before .before .before .before .before .before .before .before .before .before .before .before .before .before .before .before .before .before .before .before .before .before .before .before .before .before .before .before .before .before .before .before .before .needs .ensures) (c .before .before .before .before .before .before .before .before .before .before .before .before .before .before .before .before .before .before .before .before .before .before .before .before .before .before .before .before .before .before .before .before .before .before .before .before .before .before .before .adds .ensures) (c .before .before .before .before .before .before .before .before .before .before .before .before .before .before .before .before .before .before .before .before .before .before .before .before .before .before .before .before .before .before .before .before .before .before .before .before .before .before .dels .ensures) (c .before .before .before .before .before .before .before .before .before .before .before .before .before .before .before .before .before .before .before .before .before .before .before .before .before .before .before .before .before .before .before .before .before .before .before .before .before .cost .ensures) (c .before .before .before .before .before .before .before .before .before .before .before .before .before .before .before .before .before .before .before .before .before .before .before .before .before .before .before .before .before .before .before .before .before .before .before .before .task .ensures) stay (c .before .before .before .before .before .before .before .before .before .before .before .before .before .before .before .before .before .before .before .before .before .before .before .before .before .before .before .before .before .before .before .before .before .before .bottom-of .ensures .0) (a .letter ∷ digits (a .k))),
       (omega (arith, d .most, d .count, n), d .size),
     )
 
@@ -122,14 +97,12 @@ pub compose-spec : {M : Type 1} → statement M
 compose-spec =
     tie.close
     (tie.spec
-    shared-slice-read-needs
-    shared-slice-read-adds
-    shared-slice-read-dels
-    shared-slice-read-cost
-    shared-slice-read-task
-    cast-task
-    shared-slice-read-stay
-    cast-stay
+    needs-requires
+    adds-requires
+    dels-requires
+    cost-requires
+    task-requires
+    left-requires
     bottom-of-requires
     opening-requires
     prevails-requires

@@ -1,4 +1,5 @@
 use borrow.Author.Needs.{needs}
+use Rattle.facts.specs.Sets.{setOf}
 use native.Mathlib.Omega.{arith}
 use Rattle.compose.proofs.DrawLaws.{_▹_, draws-is, space-less, room-after}
 use Rattle.compose.proofs.PieceLaws.{effect-group}
@@ -61,7 +62,7 @@ returns c =
     let k = n .before in
     let a = k .before .before .before .before .before .args in
     draws-is (omega arith) (omega arith)
-    (effect-group (a .top) _ (a .needs) (a .dels) _ _ (a .stay) (a .task) (a .bottom) (a .cells .now) (n .effect-count .ensures .0) (k .altered .ensures))
+    (effect-group (a .top) _ (setOf (a .needs)) (setOf (a .dels)) _ _ (a .stay) (a .task) (a .bottom) (a .cells .now) (n .effect-count .ensures .0) (k .altered .ensures))
     (f .change-lines .ensures _ _ ▹ h .top-moves .ensures ▹ w .task-moves .ensures ▹ p .pushes .ensures)
 
 pub effects-spec : {M : Type 1} → statement M

@@ -1,7 +1,7 @@
 use native.Mathlib.Omega.{arith}
 use Rattle.words.specs.Words.{tableOf}
 use Rattle.text.proofs.AppendLaws.{_▸_, appends-is}
-use Rattle.frame.proofs.FrameLaws.{goal-few, goal-lines}
+use Rattle.frame.proofs.FrameLaws.{goal-lines}
 use borrow.Author.Needs.{needs}
 use Rattle.frame.proofs.put_goal.Statement.{statement}
 use Rattle.frame.proofs.put_goal.Tie as tie
@@ -12,23 +12,17 @@ fact-count-requires c κs = search needs
 goal-facts-requires : tie.Need-goal-facts-requires
 goal-facts-requires c κs = search needs
 
-cast-count : tie.Need-cast-count
-cast-count c =
-    let s = c .before .before .before .before in
-    omega (arith, goal-few (tableOf (s .args .words .now)) (s .pre .0 .valid) _ (c .goal-facts .ensures))
+count-requires : tie.Need-count-requires
+count-requires c κs = search needs
 
 add-count : tie.Need-add-count
-add-count c =
-    let s = c .before .before .before .before in
-    omega (arith, goal-few (tableOf (s .args .words .now)) (s .pre .0 .valid) _ (c .goal-facts .ensures))
+add-count c = search needs
 
 slice-aggregate-put-line : tie.Need-slice-aggregate-put-line
 slice-aggregate-put-line c = search needs
 
 put-line-requires : tie.Need-put-line-requires
-put-line-requires c κs =
-    let s = c .before .before .before .before .before .before in
-    (search needs, omega (arith, goal-few (tableOf (s .args .words .now)) (s .pre .0 .valid) _ (c .before .before .goal-facts .ensures)))
+put-line-requires c κs = search needs
 
 put-members-requires : tie.Need-put-members-requires
 put-members-requires c κs = search needs
@@ -50,17 +44,14 @@ same-length c = search needs
 
 returns : tie.Need-returns
 returns c =
-    let p4 = c .before .before in
-    let p3 = p4 .before .before .before .before .before in
-    let p2 = p3 .before .before .before .before .before in
-    let p1 = p2 .before .before .before .before in
-    let g = p1 .before .before .before in
-    let f = g .before in
-    let s = f .before .before .before in (
+    let p1 = c .before .before .before .before .before .before .before .before .before .before .before .before .before .before .before .before .put-line .ensures in
+    let p2 = c .before .before .before .before .before .before .before .before .before .before .before .before .put-members .ensures in
+    let p3 = c .before .before .before .before .before .before .before .put-field .ensures in
+    let p4 = c .before .before .put .ensures in
+    let s = c .before .before .before .before .before .before .before .before .before .before .before .before .before .before .before .before .before .before .before .before .before .before .before .before in (
       appends-is (goal-lines (tableOf (s .args .words .now)) (s .pre .0 .valid))
-          (rw (← g .goal-facts .ensures, ← f .fact-count .ensures)
-          (p1 .put-line .ensures .0 ▸ p2 .put-members .ensures .0 ▸ p3 .put-field .ensures .0 ▸ p4 .put .ensures)),
-      omega (arith, p1 .put-line .ensures .1, p2 .put-members .ensures .1, p3 .put-field .ensures .1, p4 .put .ensures .next),
+          (rw (← c .before .before .before .before .before .before .before .before .before .before .before .before .before .before .before .before .before .before .before .before .goal-facts .ensures, ← c .before .before .before .before .before .before .before .before .before .before .before .before .before .before .before .before .before .before .before .before .before .fact-count .ensures, ← c .before .before .before .before .before .before .before .before .before .before .before .before .before .before .before .before .before .before .before .count .ensures .0) (p1 .0 ▸ p2 .0 ▸ p3 .0 ▸ p4)),
+      omega (arith, p1 .1, p2 .1, p3 .1, p4 .next),
     )
 
 pub put-goal-spec : {M : Type 1} → statement M
@@ -69,7 +60,7 @@ put-goal-spec =
     (tie.spec
     fact-count-requires
     goal-facts-requires
-    cast-count
+    count-requires
     add-count
     slice-aggregate-put-line
     put-line-requires

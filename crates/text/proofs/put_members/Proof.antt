@@ -2,6 +2,7 @@ use Prim.Native.Nat.{_+_, _*_, _-_, _≤_}
 use mathlib.Core.Path.{_≡_, ap, _∙_}
 use native.Mathlib.Omega.{arith}
 use borrow.Author.Needs.{needs}
+use Rattle.facts.specs.Sets.{setOf}
 use Rattle.basics.specs.Lists.{upto}
 use Rattle.rules.specs.Sections.{valueLine}
 use Rattle.laws.proofs.TextLaws.{upto-more, concat-members}
@@ -13,7 +14,7 @@ use Rattle.text.proofs.put_members.Tie as tie
 
 abbrev Inv-loop : tie.InvT-loop
 Inv-loop out₀ at set n next₀ k₀ out next k =
-    Appends out₀ at (upto (memberLine set) k) out next × (k ≤ n) × (next ≤ at + 6 * k)
+    Appends out₀ at (upto (memberLine (setOf set)) k) out next × (k ≤ n) × (next ≤ at + 6 * k)
 
 abbrev μ-loop : tie.MeasureT-loop
 μ-loop out₀ at set n next₀ k₀ out next k = n - k
@@ -52,7 +53,7 @@ returns c =
     let l = c .before in
     let a = l .before .before .args in
     let e : a .n ≡ l .loop .k = omega arith in
-    (appends-is (concat-members (λ k. valueLine k 0) (a .n) (a .set) ∙ ap (upto _) e) (l .loop .inv .0), omega arith)
+    (appends-is (concat-members (λ k. valueLine k 0) (a .n) (setOf (a .set)) ∙ ap (upto _) e) (l .loop .inv .0), omega arith)
 
 pub put-members-spec : {M : Type 1} → statement M
 put-members-spec =
