@@ -31,7 +31,7 @@ pub length-value : (x : Answer (List ℕ)) → valueOf itself (lengthOf x) ≡ v
 length-value (answer x) = refl
 length-value (refusal number place) = refl
 
-module _ (b f : ℕ) (s plan words cells : List ℕ) (c o k : ℕ) (e : checkPlan b f s plan ≡ accepted c o k) (h : Expandable b f s plan words cells) where
+module _ (b f : ℕ) (s plan words ops cells : List ℕ) (c o k : ℕ) (e : checkPlan b f s plan ≡ accepted c o k) (h : Expandable b f s plan words ops cells) where
   given : Given b f s (tableOf words)
   given = opened-given (planNumber plan) b f s (tableOf words) (h .opens) .0
 

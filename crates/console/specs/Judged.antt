@@ -9,13 +9,13 @@ use Rattle.rules.specs.Refusals.{planNumber, opened}
 use Rattle.words.specs.Words.{tableOf, Held}
 use Rattle.plan.specs.Ready.{StepsHeld}
 
--- The plan's table is opened into the words, and the cells hold its methods' numbers of steps.
-pub record Expandable (b f : ℕ) (s plan words cells : List ℕ) : Type 0 where
+-- The plan's table is opened into the words, and its rows hold its methods' numbers of steps.
+pub record Expandable (b f : ℕ) (s plan words ops cells : List ℕ) : Type 0 where
   pub opens : opened (planNumber plan) b f s ≡ answer (tableOf words)
   pub held : Held words
-  pub steps : StepsHeld f (tableOf words) cells
+  pub steps : StepsHeld f (tableOf words) ops cells
 
 -- So it is where the plan is accepted.
-abbrev pub Judged : ℕ → ℕ → List ℕ → List ℕ → Verdict → List ℕ → List ℕ → Type 0
-Judged b f s plan (Accepted cost operators steps) words cells = Expandable b f s plan words cells
-Judged b f s plan (Refused number place) words cells = Unit {0}
+abbrev pub Judged : ℕ → ℕ → List ℕ → List ℕ → Verdict → List ℕ → List ℕ → List ℕ → Type 0
+Judged b f s plan (Accepted cost operators steps) words ops cells = Expandable b f s plan words ops cells
+Judged b f s plan (Refused number place) words ops cells = Unit {0}

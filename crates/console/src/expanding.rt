@@ -23,8 +23,8 @@ fn write(bound: u64, form: u64, table: &[u8], plan: &[u8], steps: &mut [u8]) -> 
     ensures { λ _. ⌜ now (steps .exit) ≡ written (now (steps .entry)) 0 (expandPlan bound form (now (table .entry)) (now (plan .entry)) (length (now (steps .entry)))) ⌝ }
 {
     let mut words = [0u64; words::SIZE];
-    let mut ops = [0u64; 3068];
-    let mut cells = [0u16; 9204];
+    let mut ops = [0u64; rows::ALL_WORDS];
+    let mut cells = [0u16; rows::ALL_CELLS];
     match crate::judging::judge(bound, form, table, plan, &mut words, &mut ops, &mut cells) {
         Verdict::Refused(number, place) => Reply::Refused(number, place),
         Verdict::Accepted(_, _, count) => {
@@ -32,7 +32,7 @@ fn write(bound: u64, form: u64, table: &[u8], plan: &[u8], steps: &mut [u8]) -> 
             if (steps.len() as u64) < bytes {
                 return Reply::Refused(NO_ROOM, bytes);
             }
-            plan::expand::expand(&words, bound, form, &cells, plan, steps);
+            plan::expand::expand(&words, bound, form, &ops, &cells, plan, steps);
             Reply::Value(bytes)
         }
     }

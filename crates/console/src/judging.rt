@@ -5,6 +5,7 @@ ghost use lib.ListN.{length};
 ghost use Rattle.rules.specs.Checks.{verdictOf};
 ghost use Rattle.rules.specs.Refusals.{planNumber, checkPlan};
 ghost use Rattle.words.specs.Words.{tableWords};
+ghost use Rattle.rows.specs.Sizes.{allWords, allCells};
 ghost use Rattle.plan.specs.Ready.{Few};
 ghost use Rattle.console.specs.Judged.{Judged};
 use opening::Opening;
@@ -31,9 +32,9 @@ pub fn judge(
     ops: &mut [u64],
     cells: &mut [u16],
 ) -> Verdict
-    requires { ⌜ (tableWords ≤ length (now words)) × (3068 ≤ length (now ops)) × (9204 ≤ length (now cells)) ⌝ }
+    requires { ⌜ (tableWords ≤ length (now words)) × (allWords ≤ length (now ops)) × (allCells ≤ length (now cells)) ⌝ }
     ensures { λ r. ⌜ verdictOf r ≡ checkPlan bound form (now (table .entry)) (now (plan .entry)) ⌝ }
-    ensures { λ r. ⌜ Few r × Judged bound form (now (table .entry)) (now (plan .entry)) r (now (words .exit)) (now (cells .exit)) ⌝ }
+    ensures { λ r. ⌜ Few r × Judged bound form (now (table .entry)) (now (plan .entry)) r (now (words .exit)) (now (ops .exit)) (now (cells .exit)) ⌝ }
 {
     match opening::open(bound, form, table, plan_number(plan), words) {
         Opening::Refused(number, place) => Verdict::Refused(number, place),

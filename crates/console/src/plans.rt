@@ -10,7 +10,7 @@ pub fn verdict(bound: u64, form: u64, table: &[u8], plan: &[u8]) -> Verdict
     ensures { λ r. ⌜ verdictOf r ≡ checkPlan bound form (now (table .entry)) (now (plan .entry)) ⌝ }
 {
     let mut words = [0u64; words::SIZE];
-    let mut ops = [0u64; 3068];
-    let mut cells = [0u16; 9204];
+    let mut ops = [0u64; rows::ALL_WORDS];
+    let mut cells = [0u16; rows::ALL_CELLS];
     crate::judging::judge(bound, form, table, plan, &mut words, &mut ops, &mut cells)
 }

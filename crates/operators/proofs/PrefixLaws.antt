@@ -13,7 +13,7 @@ use Rattle.rules.specs.Tables.{Table, actionCount, action, method}
 use Rattle.rules.specs.Facts.{Join, noJoin, joinOne, joinFrom, joinOf}
 use Rattle.rules.specs.Progression.{leading, prefix, mth}
 use Rattle.rules.specs.Operators.{joined}
-use Rattle.facts.specs.Masks.{joinRead}
+use Rattle.facts.specs.Sets.{joinRead}
 use Rattle.operators.specs.Prefixes.{IsPrefix}
 use Rattle.operators.specs.declared.Prefix.{Prefix}
 

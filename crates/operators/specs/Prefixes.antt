@@ -5,7 +5,7 @@ use lib.ListN.{length}
 use Rattle.rules.specs.Tables.{Table}
 use Rattle.rules.specs.Progression.{prefix, mth}
 use Rattle.rules.specs.Operators.{joined}
-use Rattle.facts.specs.Masks.{joinRead}
+use Rattle.facts.specs.Sets.{joinRead}
 use Rattle.operators.specs.declared.Prefix.{Prefix}
 
 -- The prefix of method k in form f: its joined sets, and its length p.

@@ -3,6 +3,7 @@ ghost use mathlib.Core.Path.{_≡_};
 ghost use mathlib.Core.Bool.{cond};
 ghost use Prim.Native.Nat.{_≤_, _<_};
 ghost use lib.ListN.{length};
+ghost use Rattle.rules.specs.Limits.{mostBound};
 ghost use Rattle.rules.specs.Tables.{methodCount};
 ghost use Rattle.rules.specs.Progression.{mth};
 ghost use Rattle.rules.specs.Operators.{highest, positions, operatorsOf};
@@ -40,7 +41,7 @@ pub fn prefix_of(words: &[u64], form: u64, k: usize) -> Prefix
 
 // The highest position of a method that leaves r tasks, 0 where there is none.
 pub fn highest_position(dead: bool, bound: u64, r: u64) -> u64
-    requires { ⌜ bound ≤ 64 ⌝ }
+    requires { ⌜ bound ≤ mostBound ⌝ }
     ensures { λ p. ⌜ p ≡ cond dead 0 (highest bound r) ⌝ }
 {
     if dead {
@@ -54,7 +55,7 @@ pub fn highest_position(dead: bool, bound: u64, r: u64) -> u64
 
 // At how many positions method k has an operator: 1 to this.
 pub fn method_positions(words: &[u64], bound: u64, form: u64, k: usize) -> u64
-    requires { ⌜ Held (now words) × (bound ≤ 64) × (k < methodCount (tableOf (now words))) ⌝ }
+    requires { ⌜ Held (now words) × (bound ≤ mostBound) × (k < methodCount (tableOf (now words))) ⌝ }
     ensures { λ r. ⌜ r ≡ positions bound form (tableOf (now (words .entry))) (mth k) ⌝ }
 {
     let prefix = prefix_of(words, form, k);
@@ -65,7 +66,7 @@ pub fn method_positions(words: &[u64], bound: u64, form: u64, k: usize) -> u64
 
 // How many operators there are.
 pub fn operator_count(words: &[u64], bound: u64, form: u64) -> u64
-    requires { ⌜ Held (now words) × (bound ≤ 64) ⌝ }
+    requires { ⌜ Held (now words) × (bound ≤ mostBound) ⌝ }
     ensures { λ r. ⌜ r ≡ length (operatorsOf bound form (tableOf (now (words .entry)))) ⌝ }
 {
     let methods = words::method_count(words);

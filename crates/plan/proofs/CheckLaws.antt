@@ -1,7 +1,7 @@
 -- The check, a line at a time, by the run's own steps.
-use mathlib.Core.Path.{_≡_, refl, sym, ap, subst, _∙_}
+use mathlib.Core.Path.{_≡_, refl, sym, ap, _∙_}
 use mathlib.Core.Bool.{Bool, true, false, cond}
-use mathlib.Core.List.{List, [], _∷_}
+use mathlib.Core.List.{List, _∷_}
 use Prim.Native.Nat.{ℕ, zero, suc, _+_, _*_, _<_, _≤_}
 use native.Mathlib.Numerals.{add-one}
 use native.Mathlib.Omega.{arith}
@@ -9,7 +9,8 @@ use borrow.Author.Tests.{eq-eqb, ne-eqb}
 use lib.Dec.{eqb}
 use lib.ListN.{length, drop}
 use Rattle.basics.specs.Answers.{refusal, check}
-use Rattle.rules.specs.Tables.{Table, startTask, startFacts, goalFacts}
+use Rattle.rules.specs.Reasons.{lineShape, notEmitted, notApplicable, stackNotEmpty, goalMissing}
+use Rattle.rules.specs.Tables.{Table, goalFacts}
 use Rattle.rules.specs.Facts.{holds}
 use Rattle.rules.specs.Progression.{isEmpty, afterAll, totalCost}
 use Rattle.rules.specs.Operators.{Operator, expand, emitted, applies}
@@ -18,8 +19,10 @@ use Rattle.rules.specs.Checks.{accepted, finish, checkFrom, checkLines}
 use Rattle.lines.specs.Lines.{kindStep, OperatorLine, CommentLine, IsLine}
 use Rattle.lines.specs.declared.Line.the-variants.{Shape}
 use Rattle.lines.proofs.PlaceLaws.{no-line}
+use Rattle.facts.specs.Sets.{setOf}
+use Rattle.rows.specs.Sizes.{stackCells}
 use Rattle.rows.specs.Stacks.{stackOf}
-use Rattle.run.specs.Steps.{Point, Moved, stateOf, checkAt, refused, reached, documentStep}
+use Rattle.run.specs.Steps.{Point, Moved, startPoint, stateOf, checkAt, refused, reached, documentStep}
 use Rattle.run.specs.Runs.{ProgressOk, pointOf, turnedOf}
 use Rattle.run.specs.declared.Progress.{Progress}
 use Rattle.run.specs.declared.Turned.{Turned}
@@ -27,7 +30,7 @@ use Rattle.run.proofs.StepLaws.{check-step}
 
 -- What a line of each kind does.
 module _ (b f : ℕ) (t : Table) (n : ℕ) (p : Point) where
-  pub shape-line : {rest ls : List Line} → ls ≡ other ∷ rest → checkFrom b f t (checkAt n p) ls ≡ refusal 11 (n + 1)
+  pub shape-line : {rest ls : List Line} → ls ≡ other ∷ rest → checkFrom b f t (checkAt n p) ls ≡ refusal lineShape (n + 1)
   shape-line e = rw (e, add-one)
 
   pub comment-line : {rest ls : List Line} → ls ≡ note ∷ rest → checkFrom b f t (checkAt n p) ls ≡ checkFrom b f t (checkAt (n + 1) p) rest
@@ -44,7 +47,7 @@ module _ (b f : ℕ) (t : Table) (n : ℕ) (p : Point) where
 
 -- A check on its way: what is left of the text gives the whole answer.
 pub record Going (b f : ℕ) (t : Table) (text stack : List ℕ) (run : Progress) (at lines : ℕ) : Type 0 where
-  pub cells : length stack ≡ 72
+  pub cells : length stack ≡ stackCells
   pub ok : ProgressOk run
   pub few : 2 * run .operators ≤ at
   pub passed : lines ≤ at
@@ -52,20 +55,18 @@ pub record Going (b f : ℕ) (t : Table) (text stack : List ℕ) (run : Progress
   pub rest : checkFrom b f t (checkAt lines (pointOf run stack)) (linesOf (drop at text)) ≡ checkLines b f t (linesOf text)
 
 -- It begins with the starting task alone on the stack.
-pub going-begins : {f : ℕ} {t : Table} {b : ℕ} {text stack : List ℕ} {run : Progress} → length stack ≡ 72 → stackOf stack 1 ≡ startTask t ∷ []
-    → run ≡ record { facts = startFacts t; height = 1; operators = 0; steps = 0; cost = 0 }
+pub going-begins : {f : ℕ} {t : Table} {b : ℕ} {text stack : List ℕ} {run : Progress} → length stack ≡ stackCells → ProgressOk run → pointOf run stack ≡ startPoint t
     → Going b f t text stack run 0 0
 unfolding checkLines
-going-begins {f} {t} {b} {text} {stack} l e d =
-    subst (λ (r : Progress). Going b f t text stack r 0 0) (sym d)
-    (record {
+going-begins {f} {t} {b} {text} l k e =
+    record {
       cells = l;
-      ok = record { height = omega arith; operators = omega arith; steps = omega arith; cost = omega arith };
-      few = omega arith;
+      ok = k;
+      few = omega (arith, ap (λ (p : Point). p .operators) e);
       passed = omega arith;
       within = omega arith;
-      rest = ap (λ (st : List ℕ). checkFrom b f t (checkAt 0 (record { facts = startFacts t; stack = st; operators = 0; steps = 0; cost = 0 })) (linesOf text)) e;
-    })
+      rest = ap (λ (p : Point). checkFrom b f t (checkAt 0 p) (linesOf text)) e;
+    }
 
 -- An operator that is applied counts one.
 counts-one : (b f : ℕ) (t : Table) (o : Operator) (p : Point) → documentStep b f t o p .number ≡ 0
@@ -76,15 +77,15 @@ counts-one b f t o p = go (emitted b f t o) (applies f t (stateOf p) o)
     done : Moved
     done = reached p (afterAll t (stateOf p) (expand f t o)) (length (expand f t o)) (totalCost t (expand f t o))
 
-    go : (x y : Bool) → cond x (cond y done (refused 13 p)) (refused 12 p) .number ≡ 0
-        → cond x (cond y done (refused 13 p)) (refused 12 p) .point .operators ≡ suc (p .operators)
+    go : (x y : Bool) → cond x (cond y done (refused notApplicable p)) (refused notEmitted p) .number ≡ 0
+        → cond x (cond y done (refused notApplicable p)) (refused notEmitted p) .point .operators ≡ suc (p .operators)
     go true true z = refl
     go true false z = absurd (omega arith)
     go false y z = absurd (omega arith)
 
 -- One line more, of each kind, and the end of the text.
 module _ {f : ℕ} {t : Table} {b : ℕ} {text stack : List ℕ} {run : Progress} {at lines : ℕ} (g : Going b f t text stack run at lines) where
-  pub shape-out : IsLine text at Shape → refusal 11 (lines + 1) ≡ checkLines b f t (linesOf text)
+  pub shape-out : IsLine text at Shape → refusal lineShape (lines + 1) ≡ checkLines b f t (linesOf text)
   shape-out h = sym (shape-line b f t lines (pointOf run stack) (h .1)) ∙ g .rest
 
   pub comment-on : {next : ℕ} → CommentLine text at next → Going b f t text stack run next (lines + 1)
@@ -103,7 +104,7 @@ module _ {f : ℕ} {t : Table} {b : ℕ} {text stack : List ℕ} {run : Progress
     pub operator-out : (r .number ≡ 0 → ⊥) → refusal (r .number) (lines + 1) ≡ checkLines b f t (linesOf text)
     operator-out z = sym (operator-refused b f t lines (pointOf run stack) _ (h .lines) d z) ∙ g .rest
 
-    pub operator-on : length stack′ ≡ 72 → ProgressOk (r .progress) → r .number ≡ 0 → Going b f t text stack′ (r .progress) next (lines + 1)
+    pub operator-on : length stack′ ≡ stackCells → ProgressOk (r .progress) → r .number ≡ 0 → Going b f t text stack′ (r .progress) next (lines + 1)
     operator-on l k z =
         let n : r .progress .operators ≡ suc (run .operators) =
         ap (λ (m : Moved). m .point .operators) d
@@ -123,7 +124,7 @@ module _ {f : ℕ} {t : Table} {b : ℕ} {text stack : List ℕ} {run : Progress
 
 -- The end of a plan, by the height of its stack.
 module _ (t : Table) (lines : ℕ) (run : Progress) where
-  pub ends-high : (run .height ≡ 0 → ⊥) → (stack : List ℕ) → finish t (checkAt lines (pointOf run stack)) ≡ refusal 14 lines
+  pub ends-high : (run .height ≡ 0 → ⊥) → (stack : List ℕ) → finish t (checkAt lines (pointOf run stack)) ≡ refusal stackNotEmpty lines
   unfolding stackOf
   ends-high z stack = rw (high stack (run .height) z)
     where
@@ -132,6 +133,6 @@ module _ (t : Table) (lines : ℕ) (run : Progress) where
       high cells (suc h) z = refl
 
   pub ends-empty : run .height ≡ 0 → (stack : List ℕ) → finish t (checkAt lines (pointOf run stack))
-      ≡ check (holds (goalFacts t) (run .facts)) 15 lines (accepted (run .cost) (run .operators) (run .steps))
+      ≡ check (holds (goalFacts t) (setOf (run .facts))) goalMissing lines (accepted (run .cost) (run .operators) (run .steps))
   unfolding stackOf
   ends-empty z stack = rw z

@@ -10,6 +10,7 @@ use lib.Dec.{T}
 use lib.ListN.{length, take, drop, set, getD, length-append, length-map}
 use lib.Seq.{sets, take-suc, take-at, length-take-le, length-sets}
 use Rattle.basics.specs.Answers.{Answer, numberOf, check}
+use Rattle.rules.specs.Limits.{mostActions, mostMethods, methodWords}
 use Rattle.rules.specs.Tables.{Table, actionCount, methodCount, method}
 use Rattle.rules.specs.Progression.{Step, act, mth, prefix, stays}
 use Rattle.rules.specs.Operators.{Operator, expand, expandAll, emitted, applies}
@@ -23,7 +24,7 @@ use Rattle.words.specs.Words.{tableOf, Held}
 use Rattle.lines.specs.Lines.{kindStep, OperatorLine, CommentLine, IsLine}
 use Rattle.lines.specs.declared.Line.the-variants.{Shape}
 use Rattle.lines.proofs.PlaceLaws.{no-line}
-use Rattle.rows.specs.Rows.{Row, Prepared}
+use Rattle.rows.specs.Rows.{Row, rowAt, RowsFit, Prepared}
 use Rattle.run.specs.Steps.{Known}
 use Rattle.run.proofs.StepLaws.{unknown-emitted}
 use Rattle.plan.specs.Ready.{StepsHeld}
@@ -73,30 +74,30 @@ module _ (f : ℕ) (t : Table) where
 
   pub method-bytes : (kind k p : ℕ) → (kind ≡ 0 → ⊥) → length (prefix f t k) ≡ p
       → stepBytes (expand f t (record { what = kindStep kind k; at = 0 }))
-      ≡ ((1024 + k) % 256) ∷ ((1024 + k) / 256) ∷ stepBytes (map act (take p (method t k .subs)))
+      ≡ ((methodWords + k) % 256) ∷ ((methodWords + k) / 256) ∷ stepBytes (map act (take p (method t k .subs)))
   unfolding stepBytes
   method-bytes zero k p n e = absurd (n refl)
   method-bytes (suc kind) k p n e =
-      ap (λ (ks : List ℕ). ((1024 + k) % 256) ∷ ((1024 + k) / 256) ∷ stepBytes (map act ks))
+      ap (λ (ks : List ℕ). ((methodWords + k) % 256) ∷ ((methodWords + k) / 256) ∷ stepBytes (map act ks))
       (sym (take-at (prefix f t k) (stays f t k) p e) ∙ ap (take p) (prefix-whole f t k))
 
 -- Prepared rows serve the expansion.
-pub prepared-steps : {f : ℕ} {t : Table} {b : ℕ} {ops cells : List ℕ} → Prepared b f t ops cells → StepsHeld f t cells
-prepared-steps r = record { room = r .cells-room; steps = λ k l. ap (λ (row : Row). row .steps) (r .methods k l) }
+pub prepared-steps : {f : ℕ} {t : Table} {b : ℕ} {ops cells : List ℕ} → Prepared b f t ops cells → StepsHeld f t ops cells
+prepared-steps r = record { fits = r .fits; steps = λ k l. ap (λ (row : Row). row .steps) (r .methods k l) }
 
 -- What a method's row says, and what its steps come to.
-pub record MethodRow (f : ℕ) (t : Table) (cells : List ℕ) (kind k : ℕ) : Type 0 where
+pub record MethodRow (f : ℕ) (t : Table) (ops cells : List ℕ) (kind k : ℕ) : Type 0 where
   pub known : k < methodCount t
-  pub few-actions : actionCount t ≤ 255
-  pub few-methods : methodCount t ≤ 512
-  pub within : 12 * (actionCount t + k) + 10 < length cells
-  pub steps : getD cells (12 * (actionCount t + k) + 10) 0 ≡ suc (length (prefix f t k))
+  pub few-actions : actionCount t ≤ mostActions
+  pub few-methods : methodCount t ≤ mostMethods
+  pub within : RowsFit (actionCount t + k + 1) ops cells
+  pub steps : rowAt ops cells (actionCount t + k) .steps ≡ suc (length (prefix f t k))
   pub short : length (prefix f t k) ≤ length (method t k .subs)
   pub size : length (stepBytes (expand f t (record { what = kindStep kind k; at = 0 }))) ≡ 2 + 2 * length (prefix f t k)
 
-pub method-row : (f : ℕ) (w cells : List ℕ) (kind k : ℕ) → Held w → StepsHeld f (tableOf w) cells → Known (tableOf w) (kindStep kind k)
-    → (kind ≡ 0 → ⊥) → MethodRow f (tableOf w) cells kind k
-method-row f w cells kind k h s x n =
+pub method-row : (f : ℕ) (w ops cells : List ℕ) (kind k : ℕ) → Held w → StepsHeld f (tableOf w) ops cells → Known (tableOf w) (kindStep kind k)
+    → (kind ≡ 0 → ⊥) → MethodRow f (tableOf w) ops cells kind k
+method-row f w ops cells kind k h s x n =
     let t = tableOf w in
     let l = method-known f t kind k n x in
     let e = bytes-length (map act (take (length (prefix f t k)) (method t k .subs))) in
@@ -106,7 +107,7 @@ method-row f w cells kind k h s x n =
       known = l;
       few-actions = h .valid .head .actions;
       few-methods = h .valid .head .methods;
-      within = omega (arith, s .room, l);
+      within = record { in-words = omega (arith, s .fits .in-words, l); in-cells = omega (arith, s .fits .in-cells, l) };
       steps = s .steps k l;
       short = prefix-short f t k;
       size = ap length (method-bytes f t kind k (length (prefix f t k)) n refl) ∙ omega (arith, e, d, c);
@@ -114,13 +115,13 @@ method-row f w cells kind k h s x n =
 
 -- A method's word and its prefix after it.
 pub method-put : (f : ℕ) (t : Table) (kind k p : ℕ) (out mid new : List ℕ) (at : ℕ) → (kind ≡ 0 → ⊥) → length (prefix f t k) ≡ p
-    → mid ≡ sets out at (((1024 + k) % 256) ∷ ((1024 + k) / 256) ∷ [])
+    → mid ≡ sets out at (((methodWords + k) % 256) ∷ ((methodWords + k) / 256) ∷ [])
     → new ≡ sets mid (at + 2) (stepBytes (map act (take p (method t k .subs))))
     → new ≡ sets out at (stepBytes (expand f t (record { what = kindStep kind k; at = 0 })))
 method-put f t kind k p out mid new at z e m n =
     n
     ∙ ap (λ (bs : List ℕ). sets bs (at + 2) (stepBytes (map act (take p (method t k .subs))))) m
-    ∙ sets-append (((1024 + k) % 256) ∷ ((1024 + k) / 256) ∷ []) (stepBytes (map act (take p (method t k .subs)))) out at
+    ∙ sets-append (((methodWords + k) % 256) ∷ ((methodWords + k) / 256) ∷ []) (stepBytes (map act (take p (method t k .subs)))) out at
     ∙ ap (sets out at) (sym (method-bytes f t kind k p z e))
 
 -- A check that passed.

@@ -5,6 +5,7 @@ ghost use Prim.Native.Nat.{_+_, _*_, _/_, _%_, _<_, _≤_};
 ghost use lib.ListN.{length, take};
 ghost use lib.Seq.{sets};
 ghost use Rattle.basics.specs.Answers.{numberOf};
+ghost use Rattle.rules.specs.Limits.{mostPlanBytes};
 ghost use Rattle.rules.specs.Tables.{methodCount, method};
 ghost use Rattle.rules.specs.Progression.{act};
 ghost use Rattle.rules.specs.Operators.{expand, expandAll};
@@ -15,6 +16,8 @@ ghost use Rattle.lines.specs.Lines.{kindStep};
 ghost use Rattle.run.specs.Steps.{Known};
 ghost use Rattle.plan.specs.Ready.{StepsHeld};
 use lines::Line;
+use rows::row;
+use rules::limits;
 
 // One step's word, low byte first.
 fn put_word(out: &mut [u8], at: usize, word: u64)
@@ -42,13 +45,14 @@ fn put_prefix(words: &[u64], k: usize, p: usize, out: &mut [u8], at: usize)
 fn put_steps(
     words: &[u64],
     form: u64,
+    ops: &[u64],
     cells: &[u16],
     kind: u64,
     number: u64,
     out: &mut [u8],
     at: usize,
 ) -> usize
-    requires { ⌜ Held (now words) × StepsHeld form (tableOf (now words)) (now cells) ⌝ }
+    requires { ⌜ Held (now words) × StepsHeld form (tableOf (now words)) (now ops) (now cells) ⌝ }
     requires { ⌜ Known (tableOf (now words)) (kindStep kind number) ⌝ }
     requires { ⌜ at + length (stepBytes (expand form (tableOf (now words)) (record { what = kindStep kind number; at = 0 }))) ≤ length (now out) ⌝ }
     ensures { λ r. ⌜ r ≡ at + length (stepBytes (expand form (tableOf (now (words .entry))) (record { what = kindStep kind number; at = 0 }))) ⌝ }
@@ -58,18 +62,26 @@ fn put_steps(
         put_word(out, at, number);
         return at + 2;
     }
-    put_word(out, at, 1024 + number);
+    put_word(out, at, limits::METHOD_WORDS + number);
     let actions = words::action_count(words) as usize;
     let k = number as usize;
-    let steps = cells[12 * (actions + k) + 10] as usize;
+    let steps = row::steps(ops, cells, actions + k) as usize;
     let p = steps - 1;
     put_prefix(words, k, p, out, at + 2);
     at + 2 + 2 * p
 }
 
 // The steps of all lines, from the start of the bytes on.
-pub fn expand(words: &[u64], bound: u64, form: u64, cells: &[u16], text: &[u8], out: &mut [u8])
-    requires { ⌜ Held (now words) × StepsHeld form (tableOf (now words)) (now cells) × (length (now text) ≤ 65536) ⌝ }
+pub fn expand(
+    words: &[u64],
+    bound: u64,
+    form: u64,
+    ops: &[u64],
+    cells: &[u16],
+    text: &[u8],
+    out: &mut [u8],
+)
+    requires { ⌜ Held (now words) × StepsHeld form (tableOf (now words)) (now ops) (now cells) × (length (now text) ≤ mostPlanBytes) ⌝ }
     requires { ⌜ numberOf (checkLines bound form (tableOf (now words)) (linesOf (now text))) ≡ 0 ⌝ }
     requires { ⌜ length (stepBytes (expandAll form (tableOf (now words)) (opersOf (linesOf (now text))))) ≤ length (now out) ⌝ }
     ensures { λ _. ⌜ now (out .exit) ≡ sets (now (out .entry)) 0 (stepBytes (expandAll form (tableOf (now (words .entry))) (opersOf (linesOf (now (text .entry)))))) ⌝ }
@@ -85,7 +97,7 @@ pub fn expand(words: &[u64], bound: u64, form: u64, cells: &[u16], text: &[u8], 
                 at = next;
             }
             Line::Op(kind, number, _, next) => {
-                end = put_steps(words, form, cells, kind, number, out, end);
+                end = put_steps(words, form, ops, cells, kind, number, out, end);
                 at = next;
             }
         }

@@ -1,2 +1,3 @@
 pub mod StackLaws
+mod PushLaws
 pub mod RowLaws

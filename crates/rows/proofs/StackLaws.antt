@@ -4,6 +4,7 @@ use mathlib.Core.List.{List, _∷_}
 use Prim.Native.Nat.{ℕ, zero, suc, _+_, _-_, _≤_, _<_}
 use native.Mathlib.Nat.{not-suc-le-zero, le-refl}
 use native.Mathlib.Numerals.{add-one}
+use native.Mathlib.Decide.{decLt}
 use native.Mathlib.Omega.{arith}
 use lib.ListN.{length, getD, set, take, drop, length-drop, drop-of-length-le}
 use lib.Seq.{drop-cons, drop-set-add, getD-drop, getD-set-same, getD-set-other}
@@ -22,6 +23,28 @@ stack-pop cells zero p = absurd (not-suc-le-zero p)
 stack-pop cells (suc h) p =
     let e : h ≡ suc h - 1 = omega arith in
     ap (λ (k : ℕ). getD cells k 0 ∷ stackOf cells k) e
+
+-- The task in cell h, of a stack of n.
+pub stack-at : (cells : List ℕ) (n h d : ℕ) → h < n → getD (stackOf cells n) (n - 1 - h) d ≡ getD cells h 0
+unfolding stackOf
+stack-at cells zero h d l = absurd (omega arith)
+stack-at cells (suc n) h d l =
+    elim (decLt h n) [
+      | yes m ↦
+          let e : suc n - 1 - h ≡ suc (n - 1 - h) = omega arith in
+          ap (λ (k : ℕ). getD (getD cells n 0 ∷ stackOf cells n) k d) e ∙ stack-at cells n h d m
+      | no m ↦
+          let e : suc n - 1 - h ≡ 0 = omega arith in
+          let k : n ≡ h = omega arith in
+          ap (λ (k : ℕ). getD (getD cells n 0 ∷ stackOf cells n) k d) e ∙ ap (λ (k : ℕ). getD cells k 0) k
+    ]
+
+-- The task in cell h of those from c on, of a stack that stands there.
+pub stack-cell : (cells : List ℕ) (c n h : ℕ) → h < length (stackOf (drop c cells) n)
+    → getD cells (c + h) 0 ≡ getD (stackOf (drop c cells) n) (length (stackOf (drop c cells) n) - 1 - h) 0
+stack-cell cells c n h l =
+    let e = stack-height (drop c cells) n in
+    sym (ap (λ (m : ℕ). getD (stackOf (drop c cells) n) (m - 1 - h) 0) e ∙ stack-at (drop c cells) n h 0 (omega (arith, e)) ∙ getD-drop c cells h 0)
 
 -- A store at or above the stack.
 pub stack-frame : (cells : List ℕ) (h i v : ℕ) → h ≤ i → stackOf (set cells i v) h ≡ stackOf cells h

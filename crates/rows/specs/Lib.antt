@@ -1,3 +1,4 @@
+pub mod Sizes
 pub mod Stacks
 pub mod Rows
 pub mod Stores

@@ -1,3 +1,2 @@
-mod PushLaws
 pub mod RowLaws
 pub mod StepLaws

@@ -1,10 +1,11 @@
 -- One operator on a run: as the document has it, and by its row.
 use Prim.Native.Nat.{ℕ, suc, _+_, _<_}
 use mathlib.Core.Bool.{_&&_, cond}
-use mathlib.Core.List.{List, _++_, tail}
+use mathlib.Core.List.{List, [], _∷_, _++_, tail}
 use lib.ListN.{length}
 use lib.Dec.{eqb, leb}
-use Rattle.rules.specs.Tables.{Table, actionCount, methodCount}
+use Rattle.rules.specs.Reasons.{notEmitted, notApplicable}
+use Rattle.rules.specs.Tables.{Table, actionCount, methodCount, startTask, startFacts}
 use Rattle.rules.specs.Facts.{holds, changed}
 use Rattle.rules.specs.Progression.{State, Step, act, mth, onTop, afterAll, totalCost}
 use Rattle.rules.specs.Operators.{Operator, expand, emitted, applies}
@@ -26,6 +27,10 @@ pub record Moved : Type 0 where
 
 abbrev pub stateOf : Point → State
 stateOf p = record { facts = p .facts; stack = p .stack }
+
+-- The start: the start facts and the starting task alone on the stack.
+abbrev pub startPoint : Table → Point
+startPoint t = record { facts = startFacts t; stack = startTask t ∷ []; operators = 0; steps = 0; cost = 0 }
 
 -- A check that stands there, so many lines passed.
 abbrev pub checkAt : ℕ → Point → Place
@@ -54,8 +59,8 @@ documentStep b f t o p =
     cond (emitted b f t o)
     (cond (applies f t (stateOf p) o)
     (reached p (afterAll t (stateOf p) (expand f t o)) (length (expand f t o)) (totalCost t (expand f t o)))
-    (refused 13 p))
-    (refused 12 p)
+    (refused notApplicable p))
+    (refused notEmitted p)
 
 -- The same from a row alone: the joined sets say whether the steps run and what they leave.
 unfoldable pub stepRow : Row → ℕ → Point → Moved
@@ -63,8 +68,8 @@ stepRow r pos p =
     cond (leb 1 pos && leb pos (r .last))
     (cond (eqb pos (length (p .stack)) && (onTop (r .task) (p .stack) && holds (r .needs) (p .facts)))
     (reached p (record { facts = changed (r .dels) (r .adds) (p .facts); stack = r .rest ++ tail (p .stack) }) (r .steps) (r .cost))
-    (refused 13 p))
-    (refused 12 p)
+    (refused notApplicable p))
+    (refused notEmitted p)
 
 -- The table has such an action or method.
 abbrev pub Known : Table → Step → Type 0

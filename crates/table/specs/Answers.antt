@@ -7,7 +7,7 @@ use Rattle.basics.specs.Readings.{Reading, got, bad, _>>=_, give}
 use Rattle.rules.specs.Reasons.{notThere}
 use Rattle.rules.specs.Numbers.{ranged}
 use Rattle.rules.specs.Tables.{Header, Action, allFacts}
-use Rattle.words.specs.Words.{actionRead}
+use Rattle.facts.specs.Sets.{actionRead}
 use Rattle.table.specs.declared.OneAction.{OneAction}
 use Rattle.table.specs.declared.OneAction.the-variants.{Got as GotAction, Bad as BadAction}
 use Rattle.table.specs.declared.Header.{Header as HeaderInCode}

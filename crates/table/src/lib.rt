@@ -1,4 +1,5 @@
 // Reads a table: a row of numbers, each checked against its range.
+use facts::Action;
 use numbers::Num;
 use numbers::field;
 use rules::limits::MOST_ACTIONS;
@@ -10,7 +11,6 @@ use rules::limits::MOST_TASKS;
 use rules::reasons::BYTES_AFTER_TABLE;
 use rules::reasons::NOT_THERE;
 use rules::reasons::OUT_OF_RANGE;
-use words::Action;
 use words::FIRST_METHOD;
 use words::HEADER;
 use words::PER_ACTION;
@@ -44,15 +44,9 @@ fn read_action(s: &[u8], at: usize, top: u64) -> OneAction
                 Num::Bad(why, p) => OneAction::Bad(why, p),
                 Num::Got(dels, p3) => match field(s, p3, 0, MOST_COST, OUT_OF_RANGE) {
                     Num::Bad(why, p) => OneAction::Bad(why, p),
-                    Num::Got(cost, p4) => OneAction::Got(
-                        Action {
-                            needs,
-                            adds,
-                            dels,
-                            cost,
-                        },
-                        p4,
-                    ),
+                    Num::Got(cost, p4) => {
+                        OneAction::Got(facts::action_of(needs, adds, dels, cost), p4)
+                    }
                 },
             },
         },

@@ -6,14 +6,14 @@ use Rattle.basics.specs.Lists.{rows}
 use Rattle.rules.specs.Limits.{mostActions, mostMethods}
 use Rattle.rules.specs.Tables.{Header, Action, Method, Table}
 use Rattle.laws.specs.Valid.{Valid}
-use Rattle.words.specs.declared.Action.{Action as ActionInCode}
+use Rattle.facts.specs.Sets.{setWords, setAt, actionWords}
 
 -- How many words a header, an action and a method take; where the methods begin; how many words a table takes.
 abbrev pub headerWords : ℕ
 headerWords = 7
 
 abbrev pub perAction : ℕ
-perAction = 4
+perAction = actionWords
 
 abbrev pub perMethod : ℕ
 perMethod = 10
@@ -32,20 +32,16 @@ headerOf w =
       abstracts = getD w 2 0;
       methods = getD w 3 0;
       start = getD w 4 0;
-      init = getD w 5 0;
-      goal = getD w 6 0;
+      init = setAt w 5;
+      goal = setAt w 6;
     }
 
 -- The action in the words from b on.
 abbrev pub actionAt : List ℕ → ℕ → Action
-actionAt w b = record { needs = getD w b 0; adds = getD w (b + 1) 0; dels = getD w (b + 2) 0; cost = getD w (b + 3) 0 }
+actionAt w b = record { needs = setAt w b; adds = setAt w (b + setWords); dels = setAt w (b + 2 * setWords); cost = getD w (b + 3 * setWords) 0 }
 
 abbrev pub actionOf : List ℕ → ℕ → Action
 actionOf w k = actionAt w (headerWords + perAction * k)
-
--- What the code's action says.
-abbrev pub actionRead : ActionInCode → Action
-actionRead a = record { needs = a .needs; adds = a .adds; dels = a .dels; cost = a .cost }
 
 -- The word j places after b.
 abbrev pub cellOf : ℕ → List ℕ → ℕ → ℕ

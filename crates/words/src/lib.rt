@@ -3,18 +3,22 @@ ghost use mathlib.Core.Path.{_≡_};
 ghost use Prim.Native.Nat.{_+_, _≤_, _<_};
 ghost use lib.ListN.{length, getD, take};
 ghost use Rattle.rules.specs.Tables.{factCount, actionCount, taskCount, methodCount, startTask, startFacts, goalFacts, action, method};
-ghost use Rattle.words.specs.Words.{perAction, actionRead, actionAt, tableOf, Held};
+ghost use Rattle.facts.specs.Sets.{setOf, actionRead};
+ghost use Rattle.words.specs.Words.{perAction, actionAt, tableOf, Held};
+use facts::Action;
+use facts::Set;
 
-// The words of a table, of its header, of an action and of a method; where the methods begin. The contracts say them by the names of specs/Words.
-pub const SIZE: usize = 6147;
-
+// The words of a table's header, of an action and of a method; where the methods begin; the words of a whole table. The contracts say
+// them by the names of specs/Words.
 pub const HEADER: usize = 7;
 
-pub const PER_ACTION: usize = 4;
+pub const PER_ACTION: usize = facts::ACTION_WORDS;
 
 pub const PER_METHOD: usize = 10;
 
-pub const FIRST_METHOD: usize = 1027;
+pub const FIRST_METHOD: usize = HEADER + PER_ACTION * rules::limits::MOST_ACTIONS as usize;
+
+pub const SIZE: usize = FIRST_METHOD + PER_METHOD * rules::limits::MOST_METHODS as usize;
 
 pub fn fact_count(words: &[u64]) -> u64
     requires { ⌜ Held (now words) ⌝ }
@@ -52,26 +56,18 @@ pub fn start_task(words: &[u64]) -> u64
     words[4]
 }
 
-pub fn start_facts(words: &[u64]) -> u64
+pub fn start_facts(words: &[u64]) -> Set
     requires { ⌜ Held (now words) ⌝ }
-    ensures { λ r. ⌜ r ≡ startFacts (tableOf (now (words .entry))) ⌝ }
+    ensures { λ r. ⌜ setOf r ≡ startFacts (tableOf (now (words .entry))) ⌝ }
 {
-    words[5]
+    facts::get(words, 5)
 }
 
-pub fn goal_facts(words: &[u64]) -> u64
+pub fn goal_facts(words: &[u64]) -> Set
     requires { ⌜ Held (now words) ⌝ }
-    ensures { λ r. ⌜ r ≡ goalFacts (tableOf (now (words .entry))) ⌝ }
+    ensures { λ r. ⌜ setOf r ≡ goalFacts (tableOf (now (words .entry))) ⌝ }
 {
-    words[6]
-}
-
-// One action, as the table has it.
-pub struct Action {
-    pub needs: u64,
-    pub adds: u64,
-    pub dels: u64,
-    pub cost: u64,
+    facts::get(words, 6)
 }
 
 pub fn action_at(words: &[u64], k: usize) -> Action
@@ -80,10 +76,10 @@ pub fn action_at(words: &[u64], k: usize) -> Action
 {
     let b = HEADER + PER_ACTION * k;
     Action {
-        needs: words[b],
-        adds: words[b + 1],
-        dels: words[b + 2],
-        cost: words[b + 3],
+        needs: facts::get(words, b),
+        adds: facts::get(words, b + facts::WORDS),
+        dels: facts::get(words, b + 2 * facts::WORDS),
+        cost: words[b + 3 * facts::WORDS],
     }
 }
 
@@ -92,10 +88,13 @@ pub fn put_action(words: &mut [u64], b: usize, a: Action)
     requires { ⌜ b + perAction ≤ length (now words) ⌝ }
     ensures { λ _. ⌜ (take b (now (words .exit)) ≡ take b (now (words .entry))) × (actionAt (now (words .exit)) b ≡ actionRead a) ⌝ }
 {
-    words[b] = a.needs;
-    words[b + 1] = a.adds;
-    words[b + 2] = a.dels;
-    words[b + 3] = a.cost;
+    let needs = a.needs;
+    facts::put(words, b, needs);
+    let adds = a.adds;
+    facts::put(words, b + facts::WORDS, adds);
+    let dels = a.dels;
+    facts::put(words, b + 2 * facts::WORDS, dels);
+    words[b + 3 * facts::WORDS] = a.cost;
 }
 
 pub fn head_of(words: &[u64], k: usize) -> usize

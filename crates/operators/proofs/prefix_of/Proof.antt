@@ -6,7 +6,7 @@ use lib.ListN.{length, getD}
 use Rattle.rules.specs.Tables.{Action, actionCount, action, method}
 use Rattle.rules.specs.Facts.{Join, joinOne}
 use Rattle.words.specs.Words.{tableOf}
-use Rattle.facts.specs.Masks.{joinRead}
+use Rattle.facts.specs.Sets.{joinRead}
 use Rattle.operators.proofs.PrefixLaws.{Joining, Whole, joining-begins, joining-more, joining-stops, joining-ends, plain-prefix, whole-prefix}
 use Rattle.operators.proofs.prefix_of.Statement.{statement}
 use Rattle.operators.proofs.prefix_of.Tie as tie

@@ -1,8 +1,9 @@
 use mathlib.Core.Path.{ap, _∙_}
+use native.Mathlib.Omega.{arith}
 use Rattle.rules.specs.Tables.{Action}
 use Rattle.rules.specs.Facts.{joinOne}
 use Rattle.words.specs.Words.{tableOf}
-use Rattle.facts.specs.Masks.{joinRead}
+use Rattle.facts.specs.Sets.{joinRead}
 use Rattle.rows.proofs.RowLaws.{action-stored}
 use borrow.Author.Needs.{needs}
 use Rattle.rows.proofs.action_row.Statement.{statement}
@@ -17,17 +18,16 @@ no-join-requires c κs = search needs
 join-one-requires : tie.Need-join-one-requires
 join-one-requires c κs = search needs
 
-mul-put-action : tie.Need-mul-put-action
-mul-put-action c = search needs
-
-put-action-requires : tie.Need-put-action-requires
-put-action-requires c κs = search needs
+put-sets-requires : tie.Need-put-sets-requires
+put-sets-requires c κs = search needs
 
 mul-put-tail : tie.Need-mul-put-tail
 mul-put-tail c = search needs
 
 cast-put-tail : tie.Need-cast-put-tail
-cast-put-tail c = search needs
+cast-put-tail c =
+    let s = c .before .before .before .before .before .before .before .before .before .before .before in
+    omega (arith, s .pre .2, s .pre .0 .valid .head .actions)
 
 cast-put-tail-2 : tie.Need-cast-put-tail-2
 cast-put-tail-2 c = search needs
@@ -45,14 +45,13 @@ returns : tie.Need-returns
 returns c f =
     let a = c .before .before .before .before .before .before .before .before .before .before .before .before .before .before .args in
     let act = c .before .before .before .before .before .before .before .before .before .before .action-at in
-    let put = c .before .before .before .before .before .before .put-action in
+    let put = c .before .before .before .before .before .before .put-sets in
     let tail = c .before .before .put-tail in
     action-stored (a .bound) f (tableOf (a .words .now)) (a .k) (a .i) (a .ops .now) (put .last .0) (a .cells .now) (tail .last .0) (joinRead (c .before .before .before .before .before .before .before .before .join-one .result)) (act .result .cost)
     (c .before .before .before .before .before .before .before .before .before .before .before .before .before .before .pre .2)
     (c .before .before .before .before .before .before .before .before .join-one .ensures ∙ (λ i. joinOne (c .before .before .before .before .before .before .before .before .before .no-join .ensures i) (act .ensures i)))
     (ap (λ (x : Action). x .cost) (act .ensures))
-    (put .ensures .0)
-    (put .ensures .1)
+    (put .ensures)
     (tail .ensures)
 
 pub action-row-spec : {M : Type 1} → statement M
@@ -62,8 +61,7 @@ action-row-spec =
     action-at-requires
     no-join-requires
     join-one-requires
-    mul-put-action
-    put-action-requires
+    put-sets-requires
     mul-put-tail
     cast-put-tail
     cast-put-tail-2

@@ -5,7 +5,7 @@ use Rattle.words.specs.Words.{tableOf}
 use Rattle.words.proofs.ViewLaws.{width-small}
 use Rattle.laws.proofs.CountLaws.{prefix-short}
 use Rattle.laws.proofs.TableLaws.{head-low}
-use Rattle.facts.specs.Masks.{joinRead}
+use Rattle.facts.specs.Sets.{joinRead}
 use Rattle.rows.proofs.RowLaws.{method-stored, last-low}
 use borrow.Author.Needs.{needs}
 use Rattle.rows.proofs.method_row.Statement.{statement}
@@ -17,11 +17,8 @@ prefix-of-requires c κs = search needs
 prefix-cost-requires : tie.Need-prefix-cost-requires
 prefix-cost-requires c κs = search needs
 
-mul-put-action : tie.Need-mul-put-action
-mul-put-action c = search needs
-
-put-action-requires : tie.Need-put-action-requires
-put-action-requires c κs = search needs
+put-sets-requires : tie.Need-put-sets-requires
+put-sets-requires c κs = search needs
 
 mul-put-rest : tie.Need-mul-put-rest
 mul-put-rest c = search needs
@@ -38,8 +35,8 @@ head-of-requires c κs = search needs
 width-of-requires : tie.Need-width-of-requires
 width-of-requires c κs = search needs
 
-sub-stay : tie.Need-sub-stay
-sub-stay c =
+sub-left : tie.Need-sub-left
+sub-left c =
     let a = c .before .before .before .before .before .before .before .before .before .before .before .before .before .before .before .before .before .args in
     omega (arith, c .before .width-of .ensures, c .before .before .before .before .before .before .before .before .before .before .before .before .before .prefix-of .ensures .count, prefix-short (a .form) (tableOf (a .words .now)) (a .k))
 
@@ -53,7 +50,7 @@ highest-position-requires : tie.Need-highest-position-requires
 highest-position-requires c κs = search needs
 
 mul-put-tail : tie.Need-mul-put-tail
-mul-put-tail c = search needs
+mul-put-tail c = omega (arith, c .before .before .before .before .before .before .before .before .before .before .before .before .before .before .before .before .before .before .before .before .pre .3)
 
 cast-put-tail : tie.Need-cast-put-tail
 cast-put-tail c =
@@ -91,7 +88,7 @@ returns c =
     let pre = c .before .before .before .before .before .before .before .before .before .before .before .before .before .before .before .before .before .before .before .before .before .before .before .pre in
     let t = tableOf (a .words .now) in
     let prefix = c .before .before .before .before .before .before .before .before .before .before .before .before .before .before .before .before .before .before .before .prefix-of in
-    let put = c .before .before .before .before .before .before .before .before .before .before .before .before .before .before .before .put-action in
+    let put = c .before .before .before .before .before .before .before .before .before .before .before .before .before .before .before .put-sets in
     let rest = c .before .before .before .before .before .before .before .before .before .before .before .put-rest in
     let tail = c .before .before .put-tail in
     method-stored (a .bound) (a .form) t (a .k) (a .i) (a .ops .now) (put .last .0) (a .cells .now) (rest .last .1 .1 .1 .0) (tail .last .0)
@@ -105,8 +102,7 @@ returns c =
     (ap (λ (n : ℕ). n - prefix .result .count) (c .before .before .before .before .before .before .before .width-of .ensures))
     refl
     (c .before .before .before .before .highest-position .ensures)
-    (put .ensures .0)
-    (put .ensures .1)
+    (put .ensures)
     (rest .ensures)
     (tail .ensures)
 
@@ -116,13 +112,12 @@ method-row-spec =
     (tie.spec
     prefix-of-requires
     prefix-cost-requires
-    mul-put-action
-    put-action-requires
+    put-sets-requires
     mul-put-rest
     put-rest-requires
     head-of-requires
     width-of-requires
-    sub-stay
+    sub-left
     add-steps
     highest-position-requires
     mul-put-tail

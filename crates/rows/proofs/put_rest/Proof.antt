@@ -13,20 +13,20 @@ use Rattle.rows.proofs.put_rest.Statement.{statement}
 use Rattle.rows.proofs.put_rest.Tie as tie
 
 abbrev Inv-loop : tie.InvT-loop
-Inv-loop words k p cells₀ c n stay h₀ cells h =
-    (h ≤ stay)
+Inv-loop words k p cells₀ c n left h₀ cells h =
+    (h ≤ left)
     × (length cells ≡ length cells₀)
     × (take c cells ≡ take c cells₀)
     × (stackOf (drop c cells) h ≡ drop (length (method (tableOf words) k .subs) - h) (method (tableOf words) k .subs))
 
 abbrev μ-loop : tie.MeasureT-loop
-μ-loop words k p cells₀ c n stay h₀ cells h = stay - h
+μ-loop words k p cells₀ c n left h₀ cells h = left - h
 
 width-of-requires : tie.Need-width-of-requires Inv-loop μ-loop
 width-of-requires c κs = search needs
 
-sub-stay : tie.Need-sub-stay Inv-loop μ-loop
-sub-stay c = omega (arith, c .width-of .ensures, c .before .before .before .pre .2)
+sub-left : tie.Need-sub-left Inv-loop μ-loop
+sub-left c = omega (arith, c .width-of .ensures, c .before .before .before .pre .2)
 
 loop-holds : tie.Need-loop-holds Inv-loop μ-loop
 loop-holds c =
@@ -108,7 +108,7 @@ put-rest-spec =
     Inv-loop
     μ-loop
     width-of-requires
-    sub-stay
+    sub-left
     loop-holds
     add-i
     sub-i

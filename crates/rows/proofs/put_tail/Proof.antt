@@ -46,7 +46,7 @@ same-length : tie.Need-same-length
 same-length c = search needs
 
 returns : tie.Need-returns
-returns c = put-tail (c .args .cells .now) (c .args .c) (c .args .task) (c .args .stay) (c .args .steps) (c .args .last) (c .pre) _ refl
+returns c = put-tail (c .args .cells .now) (c .args .c) (c .args .task) (c .args .left) (c .args .steps) (c .args .last) (c .pre) _ refl
 
 pub put-tail-spec : {M : Type 1} → statement M
 put-tail-spec =

@@ -1,65 +1,23 @@
-use mathlib.Core.Path.{refl}
-use Rattle.rules.specs.Facts.{without}
+use mathlib.Core.Path.{refl, ap, _∙_}
+use Prim.Native.Nat.{ℕ, _+_}
+use native.Mathlib.Omega.{arith}
+use Rattle.rules.specs.Facts.{changed}
+use Rattle.facts.specs.Sets.{setOf}
 use borrow.Author.Needs.{needs}
 use Rattle.run.proofs.landed.Statement.{statement}
 use Rattle.run.proofs.landed.Tie as tie
 
-mul-at : tie.Need-mul-at
-mul-at c = search needs
+adds-requires : tie.Need-adds-requires
+adds-requires c κs = search needs
 
-mul-from : tie.Need-mul-from
-mul-from c = search needs
+dels-requires : tie.Need-dels-requires
+dels-requires c κs = search needs
 
-add-adds : tie.Need-add-adds
-add-adds c = search needs
+changed-requires : tie.Need-changed-requires
+changed-requires c κs = search needs
 
-mul-adds : tie.Need-mul-adds
-mul-adds c = search needs
-
-shared-slice-read-adds : tie.Need-shared-slice-read-adds
-shared-slice-read-adds c = search needs
-
-add-dels : tie.Need-add-dels
-add-dels c = search needs
-
-mul-dels : tie.Need-mul-dels
-mul-dels c = search needs
-
-shared-slice-read-dels : tie.Need-shared-slice-read-dels
-shared-slice-read-dels c = search needs
-
-add-cost : tie.Need-add-cost
-add-cost c = search needs
-
-mul-cost : tie.Need-mul-cost
-mul-cost c = search needs
-
-shared-slice-read-cost : tie.Need-shared-slice-read-cost
-shared-slice-read-cost c = search needs
-
-add-rest : tie.Need-add-rest
-add-rest c = search needs
-
-mul-rest : tie.Need-mul-rest
-mul-rest c = search needs
-
-shared-slice-read-rest : tie.Need-shared-slice-read-rest
-shared-slice-read-rest c = search needs
-
-cast-rest : tie.Need-cast-rest
-cast-rest c = search needs
-
-add-steps : tie.Need-add-steps
-add-steps c = search needs
-
-mul-steps : tie.Need-mul-steps
-mul-steps c = search needs
-
-shared-slice-read-steps : tie.Need-shared-slice-read-steps
-shared-slice-read-steps c = search needs
-
-cast-steps : tie.Need-cast-steps
-cast-steps c = search needs
+left-requires : tie.Need-left-requires
+left-requires c κs = search needs
 
 add-high : tie.Need-add-high
 add-high c = search needs
@@ -67,41 +25,45 @@ add-high c = search needs
 add-operators : tie.Need-add-operators
 add-operators c = search needs
 
+steps-requires : tie.Need-steps-requires
+steps-requires c κs = search needs
+
 add-walked : tie.Need-add-walked
 add-walked c = search needs
 
+cost-requires : tie.Need-cost-requires
+cost-requires c κs = search needs
+
 add-spent : tie.Need-add-spent
-add-spent c = search needs
+add-spent c =
+    let s = c .before .before .before .before .before .before .before .before .before .before .before .before .pre in
+    omega (arith, c .before .cost .ensures, s .0 .cost, s .1, s .2 .cost)
 
 returns : tie.Need-returns
-unfolding without
-returns c = refl
+returns c =
+    let s = c .before .before .before .before .before .before .before .before .before .before .before .before in
+    let facts = setOf (s .args .t .facts) in
+    record {
+      facts = c .before .before .before .before .before .before .changed .ensures
+          ∙ (λ i. changed (c .before .before .before .before .before .before .before .before .dels .ensures i) (c .before .before .before .before .before .before .before .before .before .adds .ensures i) facts);
+      height = ap (λ (n : ℕ). s .args .below + n) (c .before .before .before .before .before .left .ensures);
+      operators = refl;
+      steps = ap (λ (n : ℕ). s .args .t .steps + n) (c .before .before .before .steps .ensures);
+      cost = ap (λ (n : ℕ). s .args .t .cost + n) (c .before .cost .ensures);
+    }
 
 pub landed-spec : {M : Type 1} → statement M
 landed-spec =
     tie.close
     (tie.spec
-    mul-at
-    mul-from
-    add-adds
-    mul-adds
-    shared-slice-read-adds
-    add-dels
-    mul-dels
-    shared-slice-read-dels
-    add-cost
-    mul-cost
-    shared-slice-read-cost
-    add-rest
-    mul-rest
-    shared-slice-read-rest
-    cast-rest
-    add-steps
-    mul-steps
-    shared-slice-read-steps
-    cast-steps
+    adds-requires
+    dels-requires
+    changed-requires
+    left-requires
     add-high
     add-operators
+    steps-requires
     add-walked
+    cost-requires
     add-spent
     returns)

@@ -1,5 +1,7 @@
+use mathlib.Core.Path.{ap}
+use Rattle.basics.specs.Readings.{got}
 use Rattle.numbers.specs.Answers.{numOf}
-use Rattle.rules.specs.Tables.{readAction}
+use Rattle.rules.specs.Tables.{Action, readAction}
 use Rattle.laws.proofs.AnswerLaws.{via}
 use borrow.Author.Needs.{needs}
 use Rattle.table.proofs.read_action.Statement.{statement}
@@ -41,6 +43,9 @@ enum-known-why-4 c = search needs
 enum-known-cost : tie.Need-enum-known-cost
 enum-known-cost c = search needs
 
+action-of-requires : tie.Need-action-of-requires
+action-of-requires c κs = search needs
+
 returns : tie.Need-returns
 unfolding readAction
 returns c =
@@ -78,11 +83,12 @@ returns-5 : tie.Need-returns-5
 unfolding readAction
 returns-5 c =
     rw (
-      via numOf (c .before .before .before .before .before .before .before .before .before .before .before .before .before .before .before .set .ensures) (c .before .before .before .before .before .before .before .before .before .before .before .before .before .needs .given .1),
-      via numOf (c .before .before .before .before .before .before .before .before .before .before .before .set2 .ensures) (c .before .before .before .before .before .before .before .before .before .adds .given .1),
-      via numOf (c .before .before .before .before .before .before .before .set3 .ensures) (c .before .before .before .before .before .dels .given .1),
-      via numOf (c .before .before .before .field .ensures) (c .before .cost .given .1),
+      via numOf (c .before .before .before .before .before .before .before .before .before .before .before .before .before .before .before .before .set .ensures) (c .before .before .before .before .before .before .before .before .before .before .before .before .before .before .needs .given .1),
+      via numOf (c .before .before .before .before .before .before .before .before .before .before .before .before .set2 .ensures) (c .before .before .before .before .before .before .before .before .before .before .adds .given .1),
+      via numOf (c .before .before .before .before .before .before .before .before .set3 .ensures) (c .before .before .before .before .before .before .dels .given .1),
+      via numOf (c .before .before .before .before .field .ensures) (c .before .before .cost .given .1),
     )
+    (ap (λ (a : Action). got a (c .before .before .cost .given .0 .1 .0)) (c .action-of .ensures))
 
 pub read-action-spec : {M : Type 1} → statement M
 read-action-spec =
@@ -100,6 +106,7 @@ read-action-spec =
     field-requires
     enum-known-why-4
     enum-known-cost
+    action-of-requires
     returns
     returns-2
     returns-3

@@ -1,4 +1,6 @@
-use mathlib.Core.Path.{sym}
+use mathlib.Core.Path.{sym, _∙_}
+use Prim.Native.Nat.{_+_, _*_}
+use lib.ListN.{getD}
 use Rattle.words.proofs.ViewLaws.{action-is}
 use borrow.Author.Needs.{needs}
 use Rattle.words.proofs.action_at.Statement.{statement}
@@ -10,20 +12,26 @@ mul-b c = search needs
 add-b : tie.Need-add-b
 add-b c = search needs
 
-mul-t4 : tie.Need-mul-t4
-mul-t4 c = search needs
+get-requires : tie.Need-get-requires
+get-requires c κs = search needs
 
-shared-slice-read-t6 : tie.Need-shared-slice-read-t6
-shared-slice-read-t6 c = search needs
+add-get : tie.Need-add-get
+add-get c = search needs
 
-add-t7 : tie.Need-add-t7
-add-t7 c = search needs
+get-requires-2 : tie.Need-get-requires-2
+get-requires-2 c κs = search needs
 
-mul-t8 : tie.Need-mul-t8
-mul-t8 c = search needs
+mul-get : tie.Need-mul-get
+mul-get c = search needs
 
-shared-slice-read-t10 : tie.Need-shared-slice-read-t10
-shared-slice-read-t10 c = search needs
+add-get-2 : tie.Need-add-get-2
+add-get-2 c = search needs
+
+get-requires-3 : tie.Need-get-requires-3
+get-requires-3 c κs = search needs
+
+mul-t10 : tie.Need-mul-t10
+mul-t10 c = search needs
 
 add-t11 : tie.Need-add-t11
 add-t11 c = search needs
@@ -34,18 +42,13 @@ mul-t12 c = search needs
 shared-slice-read-t14 : tie.Need-shared-slice-read-t14
 shared-slice-read-t14 c = search needs
 
-add-t15 : tie.Need-add-t15
-add-t15 c = search needs
-
-mul-t16 : tie.Need-mul-t16
-mul-t16 c = search needs
-
-shared-slice-read-t18 : tie.Need-shared-slice-read-t18
-shared-slice-read-t18 c = search needs
-
 returns : tie.Need-returns
 returns c =
-    sym (action-is (c .before .before .before .before .args .words .now) (c .before .before .before .before .args .k) (c .before .before .before .before .pre .1))
+    let s = c .before .before .before .before .before in
+    let e = c .before .before .before .get .ensures in
+    let d = c .before .before .get2 .ensures in
+    let g = c .before .get3 .ensures in
+    (λ i. record { needs = e i; adds = d i; dels = g i; cost = getD (s .args .words .now) (7 + 4 * s .args .k + 3) 0 }) ∙ sym (action-is (s .args .words .now) (s .args .k) (s .pre .1))
 
 pub action-at-spec : {M : Type 1} → statement M
 action-at-spec =
@@ -53,15 +56,14 @@ action-at-spec =
     (tie.spec
     mul-b
     add-b
-    mul-t4
-    shared-slice-read-t6
-    add-t7
-    mul-t8
-    shared-slice-read-t10
+    get-requires
+    add-get
+    get-requires-2
+    mul-get
+    add-get-2
+    get-requires-3
+    mul-t10
     add-t11
     mul-t12
     shared-slice-read-t14
-    add-t15
-    mul-t16
-    shared-slice-read-t18
     returns)

@@ -1,13 +1,11 @@
-use mathlib.Core.Path.{_≡_, refl, sym, ap, subst, _∙_}
-use mathlib.Core.List.{List, [], _∷_}
-use Prim.Native.Nat.{ℕ, _-_, _+_, _≤_, _<_}
+use mathlib.Core.Path.{_≡_, subst, _∙_}
+use Prim.Native.Nat.{_-_}
 use native.Mathlib.Omega.{arith}
 use borrow.Author.Needs.{needs}
 use lib.ListN.{length}
 use Rattle.words.specs.Words.{tableOf}
 use Rattle.lines.specs.Lines.{IsLine}
 use Rattle.lines.specs.declared.Line.{Line}
-use Rattle.rows.specs.Stacks.{stackOf}
 use Rattle.plan.proofs.CheckLaws.{Going, going-begins, shape-out, comment-on, operator-out, operator-on, ends}
 use Rattle.plan.proofs.check.check.Statement.{statement}
 use Rattle.plan.proofs.check.check.Tie as tie
@@ -18,21 +16,11 @@ Inv-loop words bound form ops cells text stack₀ run₀ at₀ lines₀ stack ru
 abbrev μ-loop : tie.MeasureT-loop
 μ-loop words bound form ops cells text stack₀ run₀ at₀ lines₀ stack run at lines = length text - at
 
-start-task-requires : tie.Need-start-task-requires Inv-loop μ-loop
-start-task-requires c κs = search needs
-
-cast-stack : tie.Need-cast-stack Inv-loop μ-loop
-cast-stack c = search needs
-
-array-write-stack : tie.Need-array-write-stack Inv-loop μ-loop
-array-write-stack c = search needs
-
-begun-requires : tie.Need-begun-requires Inv-loop μ-loop
-begun-requires c κs = search needs
+begin-requires : tie.Need-begin-requires Inv-loop μ-loop
+begin-requires c κs = search needs
 
 loop-holds : tie.Need-loop-holds Inv-loop μ-loop
-unfolding stackOf
-loop-holds c = going-begins refl (ap (λ (v : ℕ). v ∷ []) (c .before .start-task .ensures)) (c .begun .ensures)
+loop-holds c = going-begins (c .begin .ensures .1 .0) (c .begin .ensures .1 .1) (c .begin .ensures .0)
 
 add-lines : tie.Need-add-lines Inv-loop μ-loop
 add-lines c = search needs
@@ -110,10 +98,7 @@ check-spec =
     (tie.spec
     Inv-loop
     μ-loop
-    start-task-requires
-    cast-stack
-    array-write-stack
-    begun-requires
+    begin-requires
     loop-holds
     add-lines
     line-at-requires

@@ -13,15 +13,15 @@ use Rattle.plan.proofs.expand.expand.Statement.{statement}
 use Rattle.plan.proofs.expand.expand.Tie as tie
 
 abbrev Inv-loop : tie.InvT-loop
-Inv-loop words bound form cells text out₀ at₀ end₀ out at end =
+Inv-loop words bound form ops cells text out₀ at₀ end₀ out at end =
     Expanding bound form (tableOf words) text (sets out₀ 0 (bytesOf form (tableOf words) (linesOf text))) at end out
 
 abbrev μ-loop : tie.MeasureT-loop
-μ-loop words bound form cells text out₀ at₀ end₀ out at end = length text - at
+μ-loop words bound form ops cells text out₀ at₀ end₀ out at end = length text - at
 
 loop-holds : tie.Need-loop-holds Inv-loop μ-loop
 loop-holds c =
-    let a = c .before .before .before .before in
+    let a = c .before .before .before .before .before in
     expanding-begins (a .args .bound) (a .args .form) (tableOf (a .args .words .now)) (a .args .text .now) (a .args .out .now) (a .pre .1 .0) (a .pre .1 .1)
 
 line-at-requires : tie.Need-line-at-requires Inv-loop μ-loop
@@ -32,14 +32,14 @@ enum-told c = search needs
 
 same-length : tie.Need-same-length Inv-loop μ-loop
 same-length c =
-    let a = c .before .before .before .before .before .before .before .before .before in
+    let a = c .before .before .before .before .before .before .before .before .before .before in
     let l = c .before .before .before .before .loop in
     let h = subst (λ (r : Line). IsLine (a .args .text .now) (l .at) r) (c .enum-told .given .1) (c .before .before .line-at .ensures) in
     absurd (never-shape (l .inv) h)
 
 returns : tie.Need-returns Inv-loop μ-loop
 returns c =
-    let a = c .before .before .before .before .before .before .before .before .before in
+    let a = c .before .before .before .before .before .before .before .before .before .before in
     let l = c .before .before .before .before .loop in
     let h = subst (λ (r : Line). IsLine (a .args .text .now) (l .at) r) (c .enum-told .given .1) (c .before .before .line-at .ensures) in
     absurd (never-shape (l .inv) h)
@@ -49,14 +49,14 @@ enum-known-next c = search needs
 
 loop-less : tie.Need-loop-less Inv-loop μ-loop
 loop-less c =
-    let a = c .before .before .before .before .before .before .before .before .before .before in
+    let a = c .before .before .before .before .before .before .before .before .before .before .before in
     let l = c .before .before .before .before .before .loop in
     let h = subst (λ (r : Line). IsLine (a .args .text .now) (l .at) r) (c .before .next .given .1) (c .before .before .before .line-at .ensures) in
     omega (arith, h .onward, h .within)
 
 loop-again : tie.Need-loop-again Inv-loop μ-loop
 loop-again c =
-    let a = c .before .before .before .before .before .before .before .before .before .before in
+    let a = c .before .before .before .before .before .before .before .before .before .before .before in
     let l = c .before .before .before .before .before .loop in
     let h = subst (λ (r : Line). IsLine (a .args .text .now) (l .at) r) (c .before .next .given .1) (c .before .before .before .line-at .ensures) in
     expanding-comment (l .inv) h
@@ -66,32 +66,30 @@ enum-known-kind c = search needs
 
 put-steps-requires : tie.Need-put-steps-requires Inv-loop μ-loop
 put-steps-requires c κs =
-    let a = c .before .before .before .before .before .before .before .before .before .before .before in
+    let a = c .before .before .before .before .before .before .before .before .before .before .before .before in
     let l = c .before .before .before .before .before .before .loop in
     let h = subst (λ (r : Line). IsLine (a .args .text .now) (l .at) r) (c .before .before .kind .given .1) (c .before .before .before .before .line-at .ensures) in
     ((a .pre .0 .0, a .pre .0 .1), (operator-known (l .inv) h, operator-room (l .inv) h))
 
 loop-less-2 : tie.Need-loop-less-2 Inv-loop μ-loop
 loop-less-2 c =
-    let a = c .before .before .before .before .before .before .before .before .before .before .before .before .before .before in
+    let a = c .before .before .before .before .before .before .before .before .before .before .before .before .before .before .before in
     let l = c .before .before .before .before .before .before .before .before .before .loop in
     let h = subst (λ (r : Line). IsLine (a .args .text .now) (l .at) r) (c .before .before .before .before .before .kind .given .1) (c .before .before .before .before .before .before .before .line-at .ensures) in
     omega (arith, h .onward, h .within)
 
 loop-again-2 : tie.Need-loop-again-2 Inv-loop μ-loop
 loop-again-2 c =
-    let a = c .before .before .before .before .before .before .before .before .before .before .before .before .before .before in
+    let a = c .before .before .before .before .before .before .before .before .before .before .before .before .before .before .before in
     let l = c .before .before .before .before .before .before .before .before .before .loop in
     let h = subst (λ (r : Line). IsLine (a .args .text .now) (l .at) r) (c .before .before .before .before .before .kind .given .1) (c .before .before .before .before .before .before .before .line-at .ensures) in
     expanding-operator (l .inv) h (c .before .before .put-steps .ensures .0) (c .before .before .put-steps .ensures .1)
 
 same-length-2 : tie.Need-same-length-2 Inv-loop μ-loop
-same-length-2 c =
-    ap length (expanded (c .before .loop .inv) (c .loop-test .left)) ∙ simp length-sets
+same-length-2 c = ap length (expanded (c .before .loop .inv) (c .loop-test .left)) ∙ simp length-sets
 
 returns-2 : tie.Need-returns-2 Inv-loop μ-loop
-returns-2 c =
-    expanded (c .before .loop .inv) (c .loop-test .left)
+returns-2 c = expanded (c .before .loop .inv) (c .loop-test .left)
 
 pub expand-spec : {M : Type 1} → statement M
 expand-spec =

@@ -1,10 +1,11 @@
-use Prim.Native.Nat.{ℕ, suc, _+_, _-_, _*_}
+use Prim.Native.Nat.{ℕ, _+_, _-_}
 use mathlib.Core.Path.{_≡_, sym, ap, _∙_}
 use native.Mathlib.Omega.{arith}
-use lib.ListN.{length, getD, length-set}
+use lib.ListN.{length, length-set}
 use lib.Seq.{sets}
 use Rattle.rules.specs.Progression.{prefix}
 use Rattle.words.specs.Words.{tableOf}
+use Rattle.rows.specs.Rows.{rowAt}
 use Rattle.plan.proofs.ExpandLaws.{action-known, action-bytes, method-row, method-put}
 use borrow.Author.Needs.{needs}
 use Rattle.plan.proofs.expand.put_steps.Statement.{statement}
@@ -12,7 +13,7 @@ use Rattle.plan.proofs.expand.put_steps.Tie as tie
 
 put-word-requires : tie.Need-put-word-requires
 put-word-requires c κs =
-    let a = c .before .before .before .before .before in
+    let a = c .before .before .before .before .before .before in
     let e = action-bytes (a .args .form) (tableOf (a .args .words .now)) (a .args .kind) (a .args .number) (c .before .if1 .taken) in
     let k = action-known (a .args .form) (tableOf (a .args .words .now)) (a .args .kind) (a .args .number) (c .before .if1 .taken) (a .pre .1 .0) in
     (omega (arith, ap length e, a .pre .1 .1), omega (arith, k, a .pre .0 .0 .valid .head .actions))
@@ -25,20 +26,20 @@ same-length c = search needs
 
 returns : tie.Need-returns
 returns c =
-    let a = c .before .before .before .before .before .before .before .before in
+    let a = c .before .before .before .before .before .before .before .before .before in
     let e = action-bytes (a .args .form) (tableOf (a .args .words .now)) (a .args .kind) (a .args .number) (c .before .before .before .before .if1 .taken) in
     (omega (arith, ap length e), c .before .before .put-word .ensures ∙ ap (sets (a .args .out .now) (a .args .at)) (sym e))
 
 add-put-word : tie.Need-add-put-word
 add-put-word c =
-    let a = c .before .before .before .before .before in
-    let m = method-row (a .args .form) (a .args .words .now) (a .args .cells .now) (a .args .kind) (a .args .number) (a .pre .0 .0) (a .pre .0 .1) (a .pre .1 .0) (c .before .if1 .left) in
+    let a = c .before .before .before .before .before .before in
+    let m = method-row (a .args .form) (a .args .words .now) (a .args .ops .now) (a .args .cells .now) (a .args .kind) (a .args .number) (a .pre .0 .0) (a .pre .0 .1) (a .pre .1 .0) (c .before .if1 .left) in
     omega (arith, m .known, m .few-methods)
 
 put-word-requires-2 : tie.Need-put-word-requires-2
 put-word-requires-2 c κs =
-    let a = c .before .before .before .before .before in
-    let m = method-row (a .args .form) (a .args .words .now) (a .args .cells .now) (a .args .kind) (a .args .number) (a .pre .0 .0) (a .pre .0 .1) (a .pre .1 .0) (c .before .if1 .left) in
+    let a = c .before .before .before .before .before .before in
+    let m = method-row (a .args .form) (a .args .words .now) (a .args .ops .now) (a .args .cells .now) (a .args .kind) (a .args .number) (a .pre .0 .0) (a .pre .0 .1) (a .pre .1 .0) (c .before .if1 .left) in
     (omega (arith, m .size, a .pre .1 .1), omega (arith, m .known, m .few-methods))
 
 action-count-requires : tie.Need-action-count-requires
@@ -46,50 +47,21 @@ action-count-requires c κs = search needs
 
 add-steps : tie.Need-add-steps
 add-steps c =
-    let a = c .before .before .before .before .before .before .before .before .before in
-    let m = method-row (a .args .form) (a .args .words .now) (a .args .cells .now) (a .args .kind) (a .args .number) (a .pre .0 .0) (a .pre .0 .1) (a .pre .1 .0) (c .before .before .before .before .before .if1 .left) in
-    omega (arith, m .known, m .few-methods, m .few-actions, c .action-count .ensures)
-
-mul-steps : tie.Need-mul-steps
-mul-steps c =
-    let a = c .before .before .before .before .before .before .before .before .before in
-    let m = method-row (a .args .form) (a .args .words .now) (a .args .cells .now) (a .args .kind) (a .args .number) (a .pre .0 .0) (a .pre .0 .1) (a .pre .1 .0) (c .before .before .before .before .before .if1 .left) in
-    omega (arith, m .known, m .few-methods, m .few-actions, c .action-count .ensures)
-
-add-steps-2 : tie.Need-add-steps-2
-add-steps-2 c =
-    let a = c .before .before .before .before .before .before .before .before .before in
-    let m = method-row (a .args .form) (a .args .words .now) (a .args .cells .now) (a .args .kind) (a .args .number) (a .pre .0 .0) (a .pre .0 .1) (a .pre .1 .0) (c .before .before .before .before .before .if1 .left) in
-    omega (arith, m .known, m .few-methods, m .few-actions, c .action-count .ensures)
-
-mul-steps-2 : tie.Need-mul-steps-2
-mul-steps-2 c =
-    let a = c .before .before .before .before .before .before .before .before .before in
-    let m = method-row (a .args .form) (a .args .words .now) (a .args .cells .now) (a .args .kind) (a .args .number) (a .pre .0 .0) (a .pre .0 .1) (a .pre .1 .0) (c .before .before .before .before .before .if1 .left) in
-    omega (arith, m .known, m .few-methods, m .few-actions, c .action-count .ensures)
-
-shared-slice-read-steps : tie.Need-shared-slice-read-steps
-shared-slice-read-steps c =
     let a = c .before .before .before .before .before .before .before .before .before .before in
-    let m = method-row (a .args .form) (a .args .words .now) (a .args .cells .now) (a .args .kind) (a .args .number) (a .pre .0 .0) (a .pre .0 .1) (a .pre .1 .0) (c .before .before .before .before .before .before .if1 .left) in
-    omega (arith, m .within, c .before .action-count .ensures)
+    let m = method-row (a .args .form) (a .args .words .now) (a .args .ops .now) (a .args .cells .now) (a .args .kind) (a .args .number) (a .pre .0 .0) (a .pre .0 .1) (a .pre .1 .0) (c .before .before .before .before .before .if1 .left) in
+    omega (arith, m .known, m .few-methods, m .few-actions, c .action-count .ensures)
 
-cast-steps : tie.Need-cast-steps
-cast-steps c =
+steps-requires : tie.Need-steps-requires
+steps-requires c κs =
     let a = c .before .before .before .before .before .before .before .before .before .before in
-    let m = method-row (a .args .form) (a .args .words .now) (a .args .cells .now) (a .args .kind) (a .args .number) (a .pre .0 .0) (a .pre .0 .1) (a .pre .1 .0) (c .before .before .before .before .before .before .if1 .left) in
-    let i : getD (a .args .cells .now) (12 * (c .before .action-count .result + a .args .number) + 10) 0 ≡ suc (length (prefix (a .args .form) (tableOf (a .args .words .now)) (a .args .number))) =
-    ap (λ (n : ℕ). getD (a .args .cells .now) (12 * (n + a .args .number) + 10) 0) (c .before .action-count .ensures) ∙ m .steps
-    in
-    omega (arith, i, m .short, a .pre .0 .0 .valid .method (a .args .number) (m .known) .count)
+    let m = method-row (a .args .form) (a .args .words .now) (a .args .ops .now) (a .args .cells .now) (a .args .kind) (a .args .number) (a .pre .0 .0) (a .pre .0 .1) (a .pre .1 .0) (c .before .before .before .before .before .if1 .left) in
+    record { in-words = omega (arith, m .within .in-words, c .action-count .ensures); in-cells = omega (arith, m .within .in-cells, c .action-count .ensures) }
 
 sub-p : tie.Need-sub-p
 sub-p c =
-    let a = c .before .before .before .before .before .before .before .before .before .before in
-    let m = method-row (a .args .form) (a .args .words .now) (a .args .cells .now) (a .args .kind) (a .args .number) (a .pre .0 .0) (a .pre .0 .1) (a .pre .1 .0) (c .before .before .before .before .before .before .if1 .left) in
-    let i : getD (a .args .cells .now) (12 * (c .before .action-count .result + a .args .number) + 10) 0 ≡ suc (length (prefix (a .args .form) (tableOf (a .args .words .now)) (a .args .number))) =
-    ap (λ (n : ℕ). getD (a .args .cells .now) (12 * (n + a .args .number) + 10) 0) (c .before .action-count .ensures) ∙ m .steps
-    in
+    let a = c .before .before .before .before .before .before .before .before .before .before .before in
+    let m = method-row (a .args .form) (a .args .words .now) (a .args .ops .now) (a .args .cells .now) (a .args .kind) (a .args .number) (a .pre .0 .0) (a .pre .0 .1) (a .pre .1 .0) (c .before .before .before .before .before .before .if1 .left) in
+    let i = c .steps .ensures ∙ ap (λ (n : ℕ). rowAt (a .args .ops .now) (a .args .cells .now) (n + a .args .number) .steps) (c .before .action-count .ensures) ∙ m .steps in
     omega (arith, i)
 
 add-put-prefix : tie.Need-add-put-prefix
@@ -97,11 +69,9 @@ add-put-prefix c = search needs
 
 put-prefix-requires : tie.Need-put-prefix-requires
 put-prefix-requires c κs =
-    let a = c .before .before .before .before .before .before .before .before .before .before .before in
-    let m = method-row (a .args .form) (a .args .words .now) (a .args .cells .now) (a .args .kind) (a .args .number) (a .pre .0 .0) (a .pre .0 .1) (a .pre .1 .0) (c .before .before .before .before .before .before .before .if1 .left) in
-    let i : getD (a .args .cells .now) (12 * (c .before .before .action-count .result + a .args .number) + 10) 0 ≡ suc (length (prefix (a .args .form) (tableOf (a .args .words .now)) (a .args .number))) =
-    ap (λ (n : ℕ). getD (a .args .cells .now) (12 * (n + a .args .number) + 10) 0) (c .before .before .action-count .ensures) ∙ m .steps
-    in
+    let a = c .before .before .before .before .before .before .before .before .before .before .before .before in
+    let m = method-row (a .args .form) (a .args .words .now) (a .args .ops .now) (a .args .cells .now) (a .args .kind) (a .args .number) (a .pre .0 .0) (a .pre .0 .1) (a .pre .1 .0) (c .before .before .before .before .before .before .before .if1 .left) in
+    let i = c .before .steps .ensures ∙ ap (λ (n : ℕ). rowAt (a .args .ops .now) (a .args .cells .now) (n + a .args .number) .steps) (c .before .before .action-count .ensures) ∙ m .steps in
     let n : length (c .before .before .before .before .before .put-word2 .last .0) ≡ length (a .args .out .now) = ap length (c .before .before .before .before .before .put-word2 .ensures) ∙ simp length-set in
     ((a .pre .0 .0, m .known), (omega (arith, i, m .short), omega (arith, i, m .size, n, a .pre .1 .1)))
 
@@ -110,20 +80,16 @@ add-result-2 c = search needs
 
 mul-result : tie.Need-mul-result
 mul-result c =
-    let a = c .before .before .before .before .before .before .before .before .before .before .before .before .before .before in
-    let m = method-row (a .args .form) (a .args .words .now) (a .args .cells .now) (a .args .kind) (a .args .number) (a .pre .0 .0) (a .pre .0 .1) (a .pre .1 .0) (c .before .before .before .before .before .before .before .before .before .before .if1 .left) in
-    let i : getD (a .args .cells .now) (12 * (c .before .before .before .before .before .action-count .result + a .args .number) + 10) 0 ≡ suc (length (prefix (a .args .form) (tableOf (a .args .words .now)) (a .args .number))) =
-    ap (λ (n : ℕ). getD (a .args .cells .now) (12 * (n + a .args .number) + 10) 0) (c .before .before .before .before .before .action-count .ensures) ∙ m .steps
-    in
+    let a = c .before .before .before .before .before .before .before .before .before .before .before .before .before .before .before in
+    let m = method-row (a .args .form) (a .args .words .now) (a .args .ops .now) (a .args .cells .now) (a .args .kind) (a .args .number) (a .pre .0 .0) (a .pre .0 .1) (a .pre .1 .0) (c .before .before .before .before .before .before .before .before .before .before .if1 .left) in
+    let i = c .before .before .before .before .steps .ensures ∙ ap (λ (n : ℕ). rowAt (a .args .ops .now) (a .args .cells .now) (n + a .args .number) .steps) (c .before .before .before .before .before .action-count .ensures) ∙ m .steps in
     omega (arith, i, m .size, a .pre .1 .1)
 
 add-result-3 : tie.Need-add-result-3
 add-result-3 c =
-    let a = c .before .before .before .before .before .before .before .before .before .before .before .before .before .before in
-    let m = method-row (a .args .form) (a .args .words .now) (a .args .cells .now) (a .args .kind) (a .args .number) (a .pre .0 .0) (a .pre .0 .1) (a .pre .1 .0) (c .before .before .before .before .before .before .before .before .before .before .if1 .left) in
-    let i : getD (a .args .cells .now) (12 * (c .before .before .before .before .before .action-count .result + a .args .number) + 10) 0 ≡ suc (length (prefix (a .args .form) (tableOf (a .args .words .now)) (a .args .number))) =
-    ap (λ (n : ℕ). getD (a .args .cells .now) (12 * (n + a .args .number) + 10) 0) (c .before .before .before .before .before .action-count .ensures) ∙ m .steps
-    in
+    let a = c .before .before .before .before .before .before .before .before .before .before .before .before .before .before .before in
+    let m = method-row (a .args .form) (a .args .words .now) (a .args .ops .now) (a .args .cells .now) (a .args .kind) (a .args .number) (a .pre .0 .0) (a .pre .0 .1) (a .pre .1 .0) (c .before .before .before .before .before .before .before .before .before .before .if1 .left) in
+    let i = c .before .before .before .before .steps .ensures ∙ ap (λ (n : ℕ). rowAt (a .args .ops .now) (a .args .cells .now) (n + a .args .number) .steps) (c .before .before .before .before .before .action-count .ensures) ∙ m .steps in
     omega (arith, i, m .size, a .pre .1 .1)
 
 same-length-2 : tie.Need-same-length-2
@@ -131,12 +97,10 @@ same-length-2 c = search needs
 
 returns-2 : tie.Need-returns-2
 returns-2 c =
-    let a = c .before .before .before .before .before .before .before .before .before .before .before .before .before .before in
-    let m = method-row (a .args .form) (a .args .words .now) (a .args .cells .now) (a .args .kind) (a .args .number) (a .pre .0 .0) (a .pre .0 .1) (a .pre .1 .0) (c .before .before .before .before .before .before .before .before .before .before .if1 .left) in
-    let i : getD (a .args .cells .now) (12 * (c .before .before .before .before .before .action-count .result + a .args .number) + 10) 0 ≡ suc (length (prefix (a .args .form) (tableOf (a .args .words .now)) (a .args .number))) =
-    ap (λ (n : ℕ). getD (a .args .cells .now) (12 * (n + a .args .number) + 10) 0) (c .before .before .before .before .before .action-count .ensures) ∙ m .steps
-    in
-    let p : length (prefix (a .args .form) (tableOf (a .args .words .now)) (a .args .number)) ≡ getD (a .args .cells .now) (12 * (c .before .before .before .before .before .action-count .result + a .args .number) + 10) 0 - 1 = omega (arith, i) in
+    let a = c .before .before .before .before .before .before .before .before .before .before .before .before .before .before .before in
+    let m = method-row (a .args .form) (a .args .words .now) (a .args .ops .now) (a .args .cells .now) (a .args .kind) (a .args .number) (a .pre .0 .0) (a .pre .0 .1) (a .pre .1 .0) (c .before .before .before .before .before .before .before .before .before .before .if1 .left) in
+    let i = c .before .before .before .before .steps .ensures ∙ ap (λ (n : ℕ). rowAt (a .args .ops .now) (a .args .cells .now) (n + a .args .number) .steps) (c .before .before .before .before .before .action-count .ensures) ∙ m .steps in
+    let p : length (prefix (a .args .form) (tableOf (a .args .words .now)) (a .args .number)) ≡ c .before .before .before .before .steps .result - 1 = omega (arith, i) in
     (omega (arith, i, m .size), method-put (a .args .form) (tableOf (a .args .words .now)) (a .args .kind) (a .args .number) _ (a .args .out .now) _ _ (a .args .at) (c .before .before .before .before .before .before .before .before .before .before .if1 .left) p (c .before .before .before .before .before .before .before .before .put-word2 .ensures) (c .before .before .put-prefix .ensures))
 
 pub put-steps-spec : {M : Type 1} → statement M
@@ -151,11 +115,7 @@ put-steps-spec =
     put-word-requires-2
     action-count-requires
     add-steps
-    mul-steps
-    add-steps-2
-    mul-steps-2
-    shared-slice-read-steps
-    cast-steps
+    steps-requires
     sub-p
     add-put-prefix
     put-prefix-requires
