@@ -16,9 +16,9 @@ use Rattle.laws.proofs.StepNumbers.{by-step}
 use Rattle.laws.proofs.StepSizes.{leaves-few}
 use Rattle.rows.specs.Rows.{Row, rowAt, rowOf}
 use Rattle.rows.specs.Stacks.{stackOf}
-use Rattle.rows.proofs.RowLaws.{stay-is}
+use Rattle.rows.proofs.RowLaws.{left-is}
 use Rattle.compose.specs.RowTexts.{rowText, Fit}
-use Rattle.compose.proofs.GroupLaws.{stack-at}
+use Rattle.rows.proofs.StackLaws.{stack-at}
 
 pub row-text : (b f : ℕ) (t : Table) (x : Step) (ops cells : List ℕ) (p : ℕ) → rowAt ops cells 0 ≡ rowOf b f t x
     → rowText (factCount t) (taskCount t) (nameOf x) (rowAt ops cells 0) p ≡ operatorText f t (record { what = x; at = suc p })
@@ -47,7 +47,7 @@ pub row-fit : (b f : ℕ) (t : Table) (i k : ℕ) (ops cells : List ℕ) → Val
 row-fit b f t i k ops cells v l h e w c =
     let low = joined-low t v f i in
     let n : ℕ = getD cells 9 0 in
-    let stay : n ≡ length (leaves f t (stepAt t i)) = stay-is ops cells 0 (rowOf b f t (stepAt t i)) e in
+    let stay : n ≡ length (leaves f t (stepAt t i)) = left-is ops cells 0 (rowOf b f t (stepAt t i)) e in
     let rest : stackOf cells n ≡ leaves f t (stepAt t i) = ap (λ (r : Row). r .rest) e in
     record {
       facts = v .head .facts;

@@ -4,7 +4,7 @@ use mathlib.Core.Bool.{Bool, true, false, cond}
 use mathlib.Core.List.{List, [], _∷_, _++_, map, append-nil, append-assoc, map-append}
 use mathlib.Core.Option.{none}
 use Prim.Native.Nat.{ℕ, zero, suc, _+_, _-_, _^_, _≤_, _<_}
-use native.Mathlib.Decide.{decLt, ℕ-discrete}
+use native.Mathlib.Decide.{ℕ-discrete}
 use native.Mathlib.Numerals.{add-one}
 use native.Mathlib.Omega.{arith}
 use lib.Bits.{or-lt}
@@ -23,35 +23,16 @@ use Rattle.laws.proofs.JoinSizes.{without-lt}
 use Rattle.laws.proofs.ListLaws.{rows-length, map-rows}
 use Rattle.laws.proofs.MemberLaws.{members-ones}
 use Rattle.laws.proofs.TextLaws.{concat-append, concat-rows, upto-same}
-use Rattle.listing.specs.declared.Says.{Says}
-use Rattle.listing.specs.Listings.{listText}
 use Rattle.template.specs.Sizes.{mostNumbers}
 use Rattle.template.specs.Templates.{Blank}
 use Rattle.drawing.specs.Pieces.{Piece}
 use Rattle.drawing.specs.Draws.{Room}
 use Rattle.stack_lines.specs.StackLines.{topStaysText, taskStaysText, topMovesText, taskMovesText, raised, pushed, Tasks}
-use Rattle.rows.specs.Rows.{rowAt}
+use Rattle.rows.specs.Rows.{rowAt, RowsFit}
 use Rattle.rows.specs.Stacks.{stackOf}
-use Rattle.rows.proofs.StackLaws.{stack-height}
+use Rattle.rows.proofs.StackLaws.{stack-height, stack-at}
 use Rattle.compose.specs.Groups.{opening, ending, prevailGroup, effectGroup, whole}
 use Rattle.compose.specs.RowTexts.{setsOf, Fit}
-
--- ---- the stack by its cells
-
--- The task in cell h, of n that are left.
-pub stack-at : (cells : List ℕ) (n h d : ℕ) → h < n → getD (stackOf cells n) (n - 1 - h) d ≡ getD cells h 0
-unfolding stackOf
-stack-at cells zero h d l = absurd (omega arith)
-stack-at cells (suc n) h d l =
-    elim (decLt h n) [
-      | yes m ↦
-          let e : suc n - 1 - h ≡ suc (n - 1 - h) = omega arith in
-          ap (λ (k : ℕ). getD (getD cells n 0 ∷ stackOf cells n) k d) e ∙ stack-at cells n h d m
-      | no m ↦
-          let e : suc n - 1 - h ≡ 0 = omega arith in
-          let k : n ≡ h = omega arith in
-          ap (λ (k : ℕ). getD (getD cells n 0 ∷ stackOf cells n) k d) e ∙ ap (λ (k : ℕ). getD cells k 0) k
-    ]
 
 -- The top stays where one task is left.
 top-same : (p stay : ℕ) → eqb (suc p + stay - 1) (suc p) ≡ eqb stay 1
@@ -76,8 +57,8 @@ pub ending-words : (cost : ℕ) → numberLine cost ++ bytes "end_operator\n" �
 ending-words cost = append-assoc (digits cost) (bytes "\n") (bytes "end_operator\n")
 
 -- A group's count and facts, in words of the code.
-pub facts-as : {m n s s′ : ℕ} (says : Says) (top : ℕ) → m ≡ n → s ≡ s′ → numberLine m ++ listText says top s ≡ numberLine n ++ listText says top s′
-facts-as says top p q = λ i. numberLine (p i) ++ listText says top (q i)
+pub facts-as : {m n : ℕ} {x y : List ℕ} → m ≡ n → x ≡ y → numberLine m ++ x ≡ numberLine n ++ y
+facts-as p q = λ i. numberLine (p i) ++ q i
 
 -- ---- groups of lines
 
@@ -237,6 +218,9 @@ module _ {top free k : ℕ} {ops cells : List ℕ} (f : Fit top free k ops cells
 
   pub altered-low : altered (setsOf (rowAt ops cells 0)) < 2 ^ top
   altered-low = or-lt top _ _ (f .dels) (without-lt top _ _ (f .adds) (f .needs))
+
+  pub row-fits : RowsFit 1 ops cells
+  row-fits = record { in-words = f .words; in-cells = f .room }
 
   pub tasks-fit : Tasks (getD cells 9 0) cells
   tasks-fit = record { few = f .stay; room = omega (arith, f .room); low = f .left }

@@ -1,5 +1,5 @@
 -- An operator's parts as they are written, each as a piece of its template: name, the two groups of lines after their counts, cost.
-use Prim.Native.Nat.{ℕ, suc, _+_, _-_}
+use Prim.Native.Nat.{ℕ, suc, _+_, _-_, _*_}
 use mathlib.Core.Bool.{cond}
 use mathlib.Core.List.{List, _∷_, _++_}
 use lib.Bits.{bitOr}
@@ -8,9 +8,8 @@ use lib.Dec.{eqb}
 use Rattle.basics.specs.Texts.{bytes, digits}
 use Rattle.version3.specs.Spelling.{wordLine, numberLine}
 use Rattle.rules.specs.Facts.{without}
-use Rattle.listing.specs.declared.Says.{Says}
-use Rattle.listing.specs.declared.Says.the-variants.{Holds, Changes}
-use Rattle.listing.specs.Listings.{listText, listBytes}
+use Rattle.rules.specs.Limits.{mostFacts}
+use Rattle.listing.specs.Listings.{holdText, changeText, holdBytes, changeBytes}
 use Rattle.drawing.specs.Pieces.{Piece, _then_, fixed}
 use Rattle.stack_lines.specs.StackLines.{topStays, taskStays, topMoves, taskMoves, pushAll}
 
@@ -22,8 +21,8 @@ abbrev pub ending : ℕ → Piece
 ending cost = fixed (numberLine cost ++ bytes "end_operator\n") 34
 
 -- How many lines a group has, and those of its facts.
-abbrev pub factLines : ℕ → Says → ℕ → ℕ → Piece
-factLines n says top set = fixed (numberLine n ++ listText says top set) (4 + listBytes says)
+abbrev pub factLines : ℕ → List ℕ → ℕ → Piece
+factLines n lines most = fixed (numberLine n ++ lines) (4 + most)
 
 -- The lines of the two groups: of so many facts, and of the stack, where `stay` tasks are left and `bottom` stands in the place
 -- of `task`.
@@ -35,13 +34,13 @@ effectCount facts stay task bottom = facts + cond (eqb stay 1) 0 1 + cond (eqb b
 
 abbrev pub prevailGroup : ℕ → ℕ → ℕ → ℕ → ℕ → ℕ → Piece
 prevailGroup top needs dels stay task bottom =
-    factLines (prevailCount (ones (without needs dels)) stay task bottom) Holds top (without needs dels)
+    factLines (prevailCount (ones (without needs dels)) stay task bottom) (holdText top (without needs dels)) (holdBytes * mostFacts)
     then topStays top stay
     then taskStays top task bottom
 
 abbrev pub effectGroup : ℕ → ℕ → ℕ → ℕ → ℕ → ℕ → ℕ → List ℕ → Piece
 effectGroup top needs adds dels stay task bottom cells =
-    factLines (effectCount (ones (bitOr dels (without adds needs))) stay task bottom) (Changes needs dels) top (bitOr dels (without adds needs))
+    factLines (effectCount (ones (bitOr dels (without adds needs))) stay task bottom) (changeText needs dels top (bitOr dels (without adds needs))) (changeBytes * mostFacts)
     then topMoves top stay
     then taskMoves top task bottom
     then pushAll top cells stay

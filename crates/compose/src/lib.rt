@@ -8,6 +8,8 @@ ghost use lib.ListN.{length, getD};
 ghost use Rattle.basics.specs.Texts.{digits};
 ghost use Rattle.rules.specs.Limits.{mostFacts, mostSubtasks};
 ghost use Rattle.rules.specs.Problems.{bottomNext};
+ghost use Rattle.facts.specs.Sets.{setOf};
+ghost use Rattle.listing.specs.Listings.{listText, listBytes};
 ghost use Rattle.template.specs.Sizes.{operatorBytes};
 ghost use Rattle.template.specs.Templates.{Drawn, Blank};
 ghost use Rattle.drawing.specs.Draws.{Space, Room, Draws, Writes};
@@ -17,7 +19,9 @@ ghost use Rattle.rows.specs.Rows.{rowAt};
 ghost use Rattle.compose.specs.Groups as Groups;
 ghost use Rattle.compose.specs.Groups.{factLines, prevailCount, effectCount, prevailGroup, effectGroup};
 ghost use Rattle.compose.specs.RowTexts.{rowText, Fit};
+use facts::Set;
 use listing::Says;
+use rows::row;
 use template::Pen;
 
 // The name and the position.
@@ -53,9 +57,9 @@ fn ending(t: &mut [u8], pen: Pen, cost: u64) -> Pen
 }
 
 // How many lines a group has, and those of its facts.
-fn fact_lines(t: &mut [u8], pen: Pen, n: u64, says: Says, top: u64, set: u64) -> Pen
-    requires { ⌜ Space (factLines n says top set) (now t) pen × (n < 1000) × (top ≤ mostFacts) ⌝ }
-    ensures { λ r. ⌜ Writes (factLines n says top set) (now (t .entry)) pen (now (t .exit)) r ⌝ }
+fn fact_lines(t: &mut [u8], pen: Pen, n: u64, says: Says, top: u64, set: Set) -> Pen
+    requires { ⌜ Space (factLines n (listText says top (setOf set)) (listBytes says)) (now t) pen × (n < 1000) × (top ≤ mostFacts) ⌝ }
+    ensures { λ r. ⌜ Writes (factLines n (listText says top (setOf set)) (listBytes says)) (now (t .entry)) pen (now (t .exit)) r ⌝ }
 {
     let lines = drawing::field_line(t, pen, b"", n);
     let next = listing::put_lines(t, lines.at, says, set, top);
@@ -81,23 +85,23 @@ fn none_if(b: bool) -> u64
 }
 
 // How many lines prevail: those of a set's facts, and those of the stack that stay as they are.
-fn prevail_count(set: u64, stay: u64, task: u64, bottom: u64) -> u64
-    ensures { λ r. ⌜ r ≡ prevailCount (ones set) stay task bottom ⌝ }
+fn prevail_count(set: Set, stay: u64, task: u64, bottom: u64) -> u64
+    ensures { λ r. ⌜ r ≡ prevailCount (ones (setOf set)) stay task bottom ⌝ }
     ensures { λ r. ⌜ r ≤ mostFacts + 2 ⌝ }
 {
-    let facts = listing::count(set);
+    let facts = facts::count(set);
     let top = one_if(stay == 1);
     let place = one_if(bottom == task);
     facts + top + place
 }
 
 // How many lines change something: the others, and one for each task but the last that is left.
-fn effect_count(set: u64, stay: u64, task: u64, bottom: u64) -> u64
+fn effect_count(set: Set, stay: u64, task: u64, bottom: u64) -> u64
     requires { ⌜ stay ≤ mostSubtasks ⌝ }
-    ensures { λ r. ⌜ r ≡ effectCount (ones set) stay task bottom ⌝ }
+    ensures { λ r. ⌜ r ≡ effectCount (ones (setOf set)) stay task bottom ⌝ }
     ensures { λ r. ⌜ r ≤ mostFacts + 2 + mostSubtasks ⌝ }
 {
-    let facts = listing::count(set);
+    let facts = facts::count(set);
     let top = none_if(stay == 1);
     let place = none_if(bottom == task);
     let lines = facts + top + place;
@@ -114,16 +118,16 @@ fn prevails(
     offs: &mut [usize],
     pen: Pen,
     top: u64,
-    needs: u64,
-    dels: u64,
+    needs: Set,
+    dels: Set,
     stay: u64,
     task: u64,
     bottom: u64,
 ) -> Pen
-    requires { ⌜ Room (prevailGroup top needs dels stay task bottom) (now t) (now lens) (now offs) pen × (top ≤ mostFacts) × (task < 1000) ⌝ }
-    ensures { λ r. ⌜ Draws (prevailGroup top needs dels stay task bottom) (now (t .entry)) (now (lens .entry)) (now (offs .entry)) pen (now (t .exit)) (now (lens .exit)) (now (offs .exit)) r ⌝ }
+    requires { ⌜ Room (prevailGroup top (setOf needs) (setOf dels) stay task bottom) (now t) (now lens) (now offs) pen × (top ≤ mostFacts) × (task < 1000) ⌝ }
+    ensures { λ r. ⌜ Draws (prevailGroup top (setOf needs) (setOf dels) stay task bottom) (now (t .entry)) (now (lens .entry)) (now (offs .entry)) pen (now (t .exit)) (now (lens .exit)) (now (offs .exit)) r ⌝ }
 {
-    let set = listing::kept(needs, dels);
+    let set = facts::kept(needs, dels);
     let n = prevail_count(set, stay, task, bottom);
     let facts = fact_lines(t, pen, n, Says::Holds, top, set);
     let place = stack_lines::top_stays(t, lens, offs, facts, top, stay);
@@ -137,18 +141,18 @@ fn effects(
     offs: &mut [usize],
     pen: Pen,
     top: u64,
-    needs: u64,
-    adds: u64,
-    dels: u64,
+    needs: Set,
+    adds: Set,
+    dels: Set,
     stay: u64,
     task: u64,
     bottom: u64,
     cells: &[u16],
 ) -> Pen
-    requires { ⌜ Room (effectGroup top needs adds dels stay task bottom (now cells)) (now t) (now lens) (now offs) pen × (top ≤ mostFacts) × (task < 1000) × (bottom < 1000) × Tasks stay (now cells) ⌝ }
-    ensures { λ r. ⌜ Draws (effectGroup top needs adds dels stay task bottom (now (cells .entry))) (now (t .entry)) (now (lens .entry)) (now (offs .entry)) pen (now (t .exit)) (now (lens .exit)) (now (offs .exit)) r ⌝ }
+    requires { ⌜ Room (effectGroup top (setOf needs) (setOf adds) (setOf dels) stay task bottom (now cells)) (now t) (now lens) (now offs) pen × (top ≤ mostFacts) × (task < 1000) × (bottom < 1000) × Tasks stay (now cells) ⌝ }
+    ensures { λ r. ⌜ Draws (effectGroup top (setOf needs) (setOf adds) (setOf dels) stay task bottom (now (cells .entry))) (now (t .entry)) (now (lens .entry)) (now (offs .entry)) pen (now (t .exit)) (now (lens .exit)) (now (offs .exit)) r ⌝ }
 {
-    let set = listing::altered(needs, adds, dels);
+    let set = facts::altered(needs, adds, dels);
     let n = effect_count(set, stay, task, bottom);
     let facts = fact_lines(t, pen, n, Says::Changes(needs, dels), top, set);
     let place = stack_lines::top_moves(t, lens, offs, facts, top, stay);
@@ -184,10 +188,10 @@ pub fn compose(
     ensures { λ r. ⌜ Drawn (now (t .exit)) (now (lens .exit)) (now (offs .exit)) r (rowText top free (letter ∷ digits k) (rowAt (now (ops .entry)) (now (cells .entry)) 0)) ⌝ }
     ensures { λ r. ⌜ (r .at + 3 * r .count ≤ operatorBytes) × (length (now (t .exit)) ≡ length (now (t .entry))) ⌝ }
 {
-    let needs = ops[0];
-    let adds = ops[1];
-    let dels = ops[2];
-    let cost = ops[3];
+    let needs = row::needs(ops, cells, 0);
+    let adds = row::adds(ops, cells, 0);
+    let dels = row::dels(ops, cells, 0);
+    let cost = row::cost(ops, cells, 0);
     let task = cells[8] as u64;
     let stay = cells[9] as u64;
     let bottom = bottom_of(free, cells);

@@ -188,7 +188,7 @@ fn put_goal(words: &[u64], out: &mut [u8], at: usize) -> usize
 {
     let facts = words::fact_count(words);
     let goal = words::goal_facts(words);
-    let count = listing::count(goal) + 1;
+    let count = facts::count(goal) + 1;
     let lines = put_line(out, at, b"begin_goal\n", count);
     let top = listing::put_lines(out, lines, Says::Holds, goal, facts);
     let end = text::put_field(out, top, b"", facts);

@@ -14,9 +14,10 @@ use Rattle.rules.specs.Facts.{has, membersOf}
 use Rattle.rules.specs.Problems.{set, factEffect}
 use Rattle.laws.proofs.ListLaws.{map-map}
 use Rattle.laws.proofs.TextLaws.{concat-members}
+use Rattle.facts.specs.Sets.{setOf}
 use Rattle.listing.specs.declared.Says.{Says}
 use Rattle.listing.specs.declared.Says.the-variants.{Holds, Changes}
-use Rattle.listing.specs.Listings.{lineOf, linesOf, listText, lineWhere, before, after}
+use Rattle.listing.specs.Listings.{lineOf, listText, lineWhere, before, after}
 
 pub holds-line : (k : ℕ) → spellSetting (set k 0) ≡ digits k ++ bytes " 0\n"
 unfolding digits digitsF
@@ -47,7 +48,7 @@ pub list-lines : (says : Says) (n s : ℕ) → listText says n s ≡ upto (lineW
 unfolding lineWhere
 list-lines Holds n s = ap concat (map-map spellSetting (λ k. set k 0) (membersOf n s)) ∙ concat-members (lineOf Holds) n s
 list-lines (Changes needs dels) n s =
-    ap concat (map-map spellEffect (factEffect needs dels) (membersOf n s)) ∙ concat-members (lineOf (Changes needs dels)) n s
+    ap concat (map-map spellEffect (factEffect (setOf needs) (setOf dels)) (membersOf n s)) ∙ concat-members (lineOf (Changes needs dels)) n s
 
 -- Room for k lines, and for one more of n.
 pub lines-more : (w k : ℕ) → w * (k + 1) ≡ w * k + w

@@ -8,29 +8,39 @@ use Rattle.version3.specs.Spelling.{spellSetting, spellEffect}
 use Rattle.rules.specs.Limits.{mostFacts}
 use Rattle.rules.specs.Facts.{has, membersOf}
 use Rattle.rules.specs.Problems.{set, holding, factEffect}
+use Rattle.facts.specs.Sets.{setOf}
 use Rattle.listing.specs.declared.Says.{Says}
 use Rattle.listing.specs.declared.Says.the-variants.{Holds, Changes}
 
--- Of one fact, and of some.
+-- Of one fact.
 abbrev pub lineOf : Says → ℕ → List ℕ
 lineOf Holds k = spellSetting (set k 0)
-lineOf (Changes needs dels) k = spellEffect (factEffect needs dels k)
-
-abbrev pub linesOf : Says → List ℕ → List (List ℕ)
-linesOf Holds ks = map spellSetting (holding ks)
-linesOf (Changes needs dels) ks = map spellEffect (map (factEffect needs dels) ks)
+lineOf (Changes needs dels) k = spellEffect (factEffect (setOf needs) (setOf dels) k)
 
 -- Of the facts of a set, of n facts in all; and of fact k alone, where the set has it.
+abbrev pub holdText : ℕ → ℕ → List ℕ
+holdText n s = concat (map spellSetting (holding (membersOf n s)))
+
+abbrev pub changeText : ℕ → ℕ → ℕ → ℕ → List ℕ
+changeText needs dels n s = concat (map spellEffect (map (factEffect needs dels) (membersOf n s)))
+
 abbrev pub listText : Says → ℕ → ℕ → List ℕ
-listText says n s = concat (linesOf says (membersOf n s))
+listText Holds n s = holdText n s
+listText (Changes needs dels) n s = changeText (setOf needs) (setOf dels) n s
 
 unfoldable pub lineWhere : Says → ℕ → ℕ → List ℕ
 lineWhere says s k = cond (has s k) (lineOf says k) []
 
 -- No line and no list is longer.
+abbrev pub holdBytes : ℕ
+holdBytes = 6
+
+abbrev pub changeBytes : ℕ
+changeBytes = 11
+
 abbrev pub lineBytes : Says → ℕ
-lineBytes Holds = 6
-lineBytes (Changes needs dels) = 11
+lineBytes Holds = holdBytes
+lineBytes (Changes needs dels) = changeBytes
 
 abbrev pub listBytes : Says → ℕ
 listBytes says = lineBytes says * mostFacts

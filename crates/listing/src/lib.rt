@@ -1,43 +1,19 @@
-// The lines of the facts of a set, and how many facts it has. No other writer walks over a set.
+// The lines of the facts of a set. No other writer walks over a set.
 ghost use mathlib.Core.Path.{_≡_};
 ghost use Prim.Native.Nat.{_+_, _≤_, _<_};
-ghost use lib.Bits.{bitOr};
-ghost use lib.Count.{ones};
 ghost use lib.ListN.{length};
 ghost use Rattle.version3.specs.Spelling.{spellSetting, spellEffect};
 ghost use Rattle.rules.specs.Limits.{mostFacts};
-ghost use Rattle.rules.specs.Facts.{without};
 ghost use Rattle.rules.specs.Problems.{set as Problems·set, factEffect};
+ghost use Rattle.facts.specs.Sets.{setOf};
 ghost use Rattle.text.specs.Appends.{Appends};
 ghost use Rattle.listing.specs.Listings.{before, after, lineWhere, listText, lineBytes, listBytes};
+use facts::Set;
 
 // What a list says of each of its facts: that it holds, or how it changes, by the facts that are needed and those that are deleted.
 pub enum Says {
     Holds,
-    Changes(u64, u64),
-}
-
-// The facts that prevail: those needed and not deleted.
-pub fn kept(needs: u64, dels: u64) -> u64
-    ensures { λ r. ⌜ r ≡ without needs dels ⌝ }
-{
-    needs ^ (needs & dels)
-}
-
-// The facts that change: those deleted, and those added and not needed.
-pub fn altered(needs: u64, adds: u64, dels: u64) -> u64
-    ensures { λ r. ⌜ r ≡ bitOr dels (without adds needs) ⌝ }
-{
-    let gained = adds ^ (adds & needs);
-    dels | gained
-}
-
-// How many facts a set has.
-pub fn count(set: u64) -> u64
-    ensures { λ r. ⌜ r ≡ ones set ⌝ }
-    ensures { λ r. ⌜ r ≤ mostFacts ⌝ }
-{
-    u64::count_ones(set) as u64
+    Changes(Set, Set),
 }
 
 // That fact k holds.
@@ -75,9 +51,9 @@ fn put_after(out: &mut [u8], at: usize, deleted: bool) -> usize
 }
 
 // How fact k changes.
-fn put_change(out: &mut [u8], at: usize, needs: u64, dels: u64, k: u64) -> usize
+fn put_change(out: &mut [u8], at: usize, needs: Set, dels: Set, k: u64) -> usize
     requires { ⌜ (at + 11 ≤ length (now out)) × (k < mostFacts) ⌝ }
-    ensures { λ r. ⌜ Appends (now (out .entry)) at (spellEffect (factEffect needs dels k)) (now (out .exit)) r ⌝ }
+    ensures { λ r. ⌜ Appends (now (out .entry)) at (spellEffect (factEffect (setOf needs) (setOf dels) k)) (now (out .exit)) r ⌝ }
     ensures { λ r. ⌜ r ≤ at + 11 ⌝ }
 {
     let value = text::put_field(out, at, b"0 ", k);
@@ -86,9 +62,9 @@ fn put_change(out: &mut [u8], at: usize, needs: u64, dels: u64, k: u64) -> usize
 }
 
 // The line of fact k, where the set has it.
-fn put_line(out: &mut [u8], at: usize, says: Says, set: u64, k: u64) -> usize
+fn put_line(out: &mut [u8], at: usize, says: Says, set: Set, k: u64) -> usize
     requires { ⌜ (at + lineBytes says ≤ length (now out)) × (k < mostFacts) ⌝ }
-    ensures { λ r. ⌜ Appends (now (out .entry)) at (lineWhere says set k) (now (out .exit)) r ⌝ }
+    ensures { λ r. ⌜ Appends (now (out .entry)) at (lineWhere says (setOf set) k) (now (out .exit)) r ⌝ }
     ensures { λ r. ⌜ r ≤ at + lineBytes says ⌝ }
 {
     if !facts::has(set, k) {
@@ -101,9 +77,9 @@ fn put_line(out: &mut [u8], at: usize, says: Says, set: u64, k: u64) -> usize
 }
 
 // The lines of the facts of a set, of n facts in all.
-pub fn put_lines(out: &mut [u8], at: usize, says: Says, set: u64, n: u64) -> usize
+pub fn put_lines(out: &mut [u8], at: usize, says: Says, set: Set, n: u64) -> usize
     requires { ⌜ (at + listBytes says ≤ length (now out)) × (n ≤ mostFacts) ⌝ }
-    ensures { λ r. ⌜ Appends (now (out .entry)) at (listText says n set) (now (out .exit)) r ⌝ }
+    ensures { λ r. ⌜ Appends (now (out .entry)) at (listText says n (setOf set)) (now (out .exit)) r ⌝ }
     ensures { λ r. ⌜ r ≤ at + listBytes says ⌝ }
 {
     let mut next = at;

@@ -3,20 +3,14 @@ ghost use mathlib.Core.Path.{_≡_};
 ghost use Prim.Native.Nat.{_+_, _≤_, _<_};
 ghost use lib.ListN.{length, getD, take};
 ghost use Rattle.rules.specs.Tables.{factCount, actionCount, taskCount, methodCount, startTask, startFacts, goalFacts, action, method};
-<<<<<<< HEAD
 ghost use Rattle.facts.specs.Sets.{setOf, actionRead};
 ghost use Rattle.words.specs.Words.{perAction, actionAt, tableOf, Held};
 use facts::Action;
 use facts::Set;
-
-// The words of a table's header, of an action and of a method; where the methods begin; the words of a whole table. The contracts say
-=======
-ghost use Rattle.words.specs.Words.{perAction, actionRead, actionAt, tableOf, Held};
 use rules::limits::MOST_ACTIONS;
 use rules::limits::MOST_METHODS;
 
 // How many words a header, an action and a method take; where the methods begin; how many words a table takes. The contracts say
->>>>>>> open
 // them by the names of specs/Words.
 pub const HEADER: usize = 7;
 
@@ -24,15 +18,9 @@ pub const PER_ACTION: usize = facts::ACTION_WORDS;
 
 pub const PER_METHOD: usize = 10;
 
-<<<<<<< HEAD
-pub const FIRST_METHOD: usize = HEADER + PER_ACTION * rules::limits::MOST_ACTIONS as usize;
-
-pub const SIZE: usize = FIRST_METHOD + PER_METHOD * rules::limits::MOST_METHODS as usize;
-=======
 pub const FIRST_METHOD: usize = HEADER + PER_ACTION * MOST_ACTIONS as usize;
 
 pub const SIZE: usize = FIRST_METHOD + PER_METHOD * MOST_METHODS as usize;
->>>>>>> open
 
 pub fn fact_count(words: &[u64]) -> u64
     requires { ⌜ Held (now words) ⌝ }

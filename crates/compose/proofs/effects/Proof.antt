@@ -1,12 +1,13 @@
 use borrow.Author.Needs.{needs}
 use native.Mathlib.Omega.{arith}
 use Rattle.drawing.proofs.DrawLaws.{_▹_, draws-is, space-less, room-after}
-use Prim.Native.Nat.{ℕ}
+use Prim.Native.Nat.{ℕ, _*_}
 use mathlib.Core.Path.{ap, _∙_}
 use lib.Bits.{bitOr}
 use lib.Count.{ones}
 use Rattle.rules.specs.Facts.{without}
-use Rattle.listing.specs.declared.Says.the-variants.{Changes}
+use Rattle.rules.specs.Limits.{mostFacts}
+use Rattle.listing.specs.Listings.{changeText, changeBytes}
 use Rattle.drawing.specs.Draws.{Draws}
 use Rattle.compose.specs.Groups.{factLines, effectCount}
 use Rattle.compose.proofs.GroupLaws.{facts-as}
@@ -68,10 +69,10 @@ returns c =
     let n = f .before .before in
     let k = n .before in
     let a = k .before .before .before .before .before .args in
-    let set = bitOr (a .dels) (without (a .adds) (a .needs)) in
-    let facts : Draws (factLines (effectCount (ones set) (a .stay) (a .task) (a .bottom)) (Changes (a .needs) (a .dels)) (a .top) set) _ _ _ _ _ _ _ _ =
+    let set = bitOr (a .dels .bits) (without (a .adds .bits) (a .needs .bits)) in
+    let facts : Draws (factLines (effectCount (ones set) (a .stay) (a .task) (a .bottom)) (changeText (a .needs .bits) (a .dels .bits) (a .top) set) (changeBytes * mostFacts)) _ _ _ _ _ _ _ _ =
     draws-is (omega arith) (omega arith)
-    (λ p. facts-as (Changes (a .needs) (a .dels)) (a .top) (n .effect-count .ensures .0 ∙ ap (λ (s : ℕ). effectCount (ones s) (a .stay) (a .task) (a .bottom)) (k .altered .ensures)) (k .altered .ensures))
+    (λ p. facts-as (n .effect-count .ensures .0 ∙ ap (λ (s : ℕ). effectCount (ones s) (a .stay) (a .task) (a .bottom)) (k .altered .ensures)) (ap (changeText (a .needs .bits) (a .dels .bits) (a .top)) (k .altered .ensures)))
     (f .fact-lines .ensures _ _) in
     facts ▹ h .top-moves .ensures ▹ w .task-moves .ensures ▹ p .pushes .ensures
 

@@ -1,10 +1,11 @@
 use borrow.Author.Needs.{needs}
 use native.Mathlib.Omega.{arith}
-use Prim.Native.Nat.{ℕ}
+use Prim.Native.Nat.{ℕ, _*_}
 use mathlib.Core.Path.{ap, _∙_}
 use lib.Count.{ones}
 use Rattle.rules.specs.Facts.{without}
-use Rattle.listing.specs.declared.Says.the-variants.{Holds}
+use Rattle.rules.specs.Limits.{mostFacts}
+use Rattle.listing.specs.Listings.{holdText, holdBytes}
 use Rattle.drawing.specs.Draws.{Draws}
 use Rattle.compose.specs.Groups.{factLines, prevailCount}
 use Rattle.compose.proofs.GroupLaws.{facts-as}
@@ -54,9 +55,9 @@ returns c =
     let n = f .before .before in
     let k = n .before in
     let a = k .before .before .before .before .args in
-    let facts : Draws (factLines (prevailCount (ones (without (a .needs) (a .dels))) (a .stay) (a .task) (a .bottom)) Holds (a .top) (without (a .needs) (a .dels))) _ _ _ _ _ _ _ _ =
+    let facts : Draws (factLines (prevailCount (ones (without (a .needs .bits) (a .dels .bits))) (a .stay) (a .task) (a .bottom)) (holdText (a .top) (without (a .needs .bits) (a .dels .bits))) (holdBytes * mostFacts)) _ _ _ _ _ _ _ _ =
     draws-is (omega arith) (omega arith)
-    (λ p. facts-as Holds (a .top) (n .prevail-count .ensures .0 ∙ ap (λ (s : ℕ). prevailCount (ones s) (a .stay) (a .task) (a .bottom)) (k .kept .ensures)) (k .kept .ensures))
+    (λ p. facts-as (n .prevail-count .ensures .0 ∙ ap (λ (s : ℕ). prevailCount (ones s) (a .stay) (a .task) (a .bottom)) (k .kept .ensures)) (ap (holdText (a .top)) (k .kept .ensures)))
     (f .fact-lines .ensures _ _) in
     facts ▹ h .top-stays .ensures ▹ w .task-stays .ensures
 

@@ -1,12 +1,7 @@
 use mathlib.Core.Path.{refl}
 use Rattle.rules.specs.Facts.{without}
-<<<<<<<< HEAD:crates/listing/proofs/altered/Proof.antt
-use Rattle.listing.proofs.altered.Statement.{statement}
-use Rattle.listing.proofs.altered.Tie as tie
-========
 use Rattle.facts.proofs.altered.Statement.{statement}
 use Rattle.facts.proofs.altered.Tie as tie
->>>>>>>> engine:crates/facts/proofs/altered/Proof.antt
 
 returns : tie.Need-returns
 unfolding without

@@ -1,12 +1,7 @@
 use mathlib.Core.Path.{refl}
 use Rattle.rules.specs.Facts.{without}
-<<<<<<<< HEAD:crates/listing/proofs/kept/Proof.antt
-use Rattle.listing.proofs.kept.Statement.{statement}
-use Rattle.listing.proofs.kept.Tie as tie
-========
 use Rattle.facts.proofs.kept.Statement.{statement}
 use Rattle.facts.proofs.kept.Tie as tie
->>>>>>>> engine:crates/facts/proofs/kept/Proof.antt
 
 returns : tie.Need-returns
 unfolding without
