@@ -46,7 +46,7 @@ fn open_input(input: &[u8], words: &mut [u64]) -> Opening
 }
 
 fn show_refusal(number: u64, place: u64) {
-    let mut line = [0u8; 80];
+    let mut line = [0u8; report::LINE_ROOM];
     let size = report::refused(&mut line, number, place);
     report::send(&line, size);
 }

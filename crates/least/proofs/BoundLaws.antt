@@ -10,7 +10,8 @@ use lib.ListN.{length, getD, set, drop, replicate, length-replicate, drop-of-len
 use lib.Seq.{drop-cons, getD-set-same, getD-set-other}
 use borrow.Author.Tests.{lt-ltb, le-ltb, le-leb, lt-leb}
 use Rattle.rules.specs.Tables.{Table, Method, actionCount, taskCount, startTask, method}
-use Rattle.rules.specs.LeastBounds.{boundOf, rise, methodBound, lowers, improve, round, settled, upToMost}
+use Rattle.rules.specs.Limits.{mostBound}
+use Rattle.rules.specs.LeastBounds.{unknown, boundOf, rise, methodBound, lowers, improve, round, settled, upToMost}
 use Rattle.laws.specs.Bounds.{Kept}
 use Rattle.laws.proofs.RoundLaws.{settled-more, begins}
 use Rattle.least.specs.Ones.{Ones}
@@ -67,11 +68,11 @@ module _ (t : Table) (v : List ℕ) (start : ℕ) (e : start ≡ startTask t) (l
   found : getD v start 0 ≡ boundOf v (startTask t)
   found = bound-in v start l ∙ ap (boundOf v) e
 
-  pub start-low : getD v start 0 ≤ 64 → getD v start 0 ≡ upToMost (boundOf v (startTask t))
-  start-low h = sym (rw (← found, le-leb (getD v start 0) 64 h))
+  pub start-low : getD v start 0 ≤ mostBound → getD v start 0 ≡ upToMost (boundOf v (startTask t))
+  start-low h = sym (rw (← found, le-leb (getD v start 0) mostBound h))
 
-  pub start-high : 64 < getD v start 0 → 0 ≡ upToMost (boundOf v (startTask t))
-  start-high h = sym (rw (← found, lt-leb (getD v start 0) 64 h))
+  pub start-high : mostBound < getD v start 0 → 0 ≡ upToMost (boundOf v (startTask t))
+  start-high h = sym (rw (← found, lt-leb (getD v start 0) mostBound h))
 
 -- One more method of a round.
 module _ (t : Table) (v w : List ℕ) (k : ℕ) (e : w ≡ round t v k) where
@@ -89,19 +90,19 @@ ones-more old i v h q =
     record {
       size = length-set v i 1 ∙ q .size;
       low = λ c l. low c l (ℕ-discrete c i);
-      high = λ c l. getD-set-other v i c 1 65 (λ e. omega arith) ∙ q .high c (omega arith);
+      high = λ c l. getD-set-other v i c 1 unknown (λ e. omega arith) ∙ q .high c (omega arith);
     }
   where
     low : (c : ℕ) → c < i + 1 → Dec (c ≡ i) → boundOf (set v i 1) c ≡ 1
-    low c l (yes e) = rw (e, getD-set-same v i 1 65 h)
-    low c l (no e) = getD-set-other v i c 1 65 e ∙ q .low c (omega arith)
+    low c l (yes e) = rw (e, getD-set-same v i 1 unknown h)
+    low c l (no e) = getD-set-other v i c 1 unknown e ∙ q .low c (omega arith)
 
 -- The bounds that the rounds begin with.
-none-known : (n c : ℕ) → boundOf (replicate n 65) c ≡ 65
+none-known : (n c : ℕ) → boundOf (replicate n unknown) c ≡ unknown
 none-known zero c = refl
 none-known (suc n) zero = refl
 none-known (suc n) (suc c) = none-known n c
 
-pub ones-kept : (t : Table) (n a : ℕ) (v : List ℕ) → a ≡ actionCount t → taskCount t ≤ n → Ones (replicate n 65) a v → Kept t v
+pub ones-kept : (t : Table) (n a : ℕ) (v : List ℕ) → a ≡ actionCount t → taskCount t ≤ n → Ones (replicate n unknown) a v → Kept t v
 ones-kept t n a v e l q =
-    begins t v (omega (arith, q .size, length-replicate {A = ℕ} n 65)) (λ c h. q .low c (omega arith)) (λ c h. q .high c (omega arith) ∙ none-known n c)
+    begins t v (omega (arith, q .size, length-replicate {A = ℕ} n unknown)) (λ c h. q .low c (omega arith)) (λ c h. q .high c (omega arith) ∙ none-known n c)

@@ -9,6 +9,13 @@ ghost use Rattle.rules.specs.LeastBounds.{boundOf, methodBound, lowers, improve
 ghost use Rattle.laws.specs.Bounds.{Kept};
 ghost use Rattle.least.specs.Ones.{Ones};
 ghost use Rattle.words.specs.Words.{tableOf, Held};
+use rules::limits::MOST_BOUND;
+use rules::limits::MOST_TASKS;
+
+// A bound above all, where none is known: `unknown` of rules' LeastBounds.
+const UNKNOWN: u8 = MOST_BOUND as u8 + 1;
+
+const TASKS: usize = MOST_TASKS as usize;
 
 fn higher(a: u64, b: u64) -> u64
     ensures { λ r. ⌜ r ≡ max a b ⌝ }
@@ -98,14 +105,14 @@ fn start_bound(words: &[u64], bounds: &[u8]) -> u64
 {
     let start = words::start_task(words) as usize;
     let bound = bounds[start] as u64;
-    if bound <= 64 { bound } else { 0 }
+    if bound <= MOST_BOUND { bound } else { 0 }
 }
 
 pub fn least(words: &[u64]) -> u64
     requires { ⌜ Held (now words) ⌝ }
     ensures { λ r. ⌜ r ≡ leastBound (tableOf (now (words .entry))) ⌝ }
 {
-    let mut bounds = [65u8; 256];
+    let mut bounds = [UNKNOWN; TASKS];
     put_ones(&mut bounds, words::action_count(words) as usize);
     settle(words, &mut bounds);
     start_bound(words, &bounds)

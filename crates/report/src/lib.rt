@@ -7,8 +7,11 @@ ghost use Rattle.basics.specs.Answers.{refusal};
 ghost use Rattle.rules.specs.Checks.{accepted as Checks·accepted};
 ghost use Rattle.basics.specs.Texts.{digits};
 ghost use Rattle.text.specs.Appends.{Appends};
-ghost use Rattle.report.specs.Reports.{lineOf};
+ghost use Rattle.report.specs.Reports.{wordRoom, lineRoom, lineOf};
 use libc::STDOUT_FILENO;
+
+// Room for a line. The contracts say it by the name of specs/Reports.
+pub const LINE_ROOM: usize = 80;
 
 // A byte that the input lacks reads as 0.
 pub fn byte(input: &[u8], at: usize) -> u8
@@ -34,18 +37,18 @@ pub fn smaller(a: usize, b: usize) -> usize
 
 // A space and a number.
 fn put_word(out: &mut [u8], at: usize, n: u64) -> usize
-    requires { ⌜ at + 21 ≤ length (now out) ⌝ }
+    requires { ⌜ at + wordRoom ≤ length (now out) ⌝ }
     ensures { λ r. ⌜ Appends (now (out .entry)) at (32 ∷ digits n) (now (out .exit)) r ⌝ }
-    ensures { λ r. ⌜ r ≤ at + 21 ⌝ }
+    ensures { λ r. ⌜ r ≤ at + wordRoom ⌝ }
 {
     let next = text::put(out, at, b" ");
     text::put_number(out, next, n)
 }
 
 pub fn accepted(out: &mut [u8], cost: u64, operators: u64, steps: u64) -> usize
-    requires { ⌜ 80 ≤ length (now out) ⌝ }
+    requires { ⌜ lineRoom ≤ length (now out) ⌝ }
     ensures { λ r. ⌜ Appends (now (out .entry)) 0 (lineOf (Checks·accepted cost operators steps)) (now (out .exit)) r ⌝ }
-    ensures { λ r. ⌜ r ≤ 80 ⌝ }
+    ensures { λ r. ⌜ r ≤ lineRoom ⌝ }
 {
     let first = text::put(out, 0, b"accepted");
     let second = put_word(out, first, cost);
@@ -55,9 +58,9 @@ pub fn accepted(out: &mut [u8], cost: u64, operators: u64, steps: u64) -> usize
 }
 
 pub fn refused(out: &mut [u8], number: u64, place: u64) -> usize
-    requires { ⌜ 80 ≤ length (now out) ⌝ }
+    requires { ⌜ lineRoom ≤ length (now out) ⌝ }
     ensures { λ r. ⌜ Appends (now (out .entry)) 0 (lineOf (refusal number place)) (now (out .exit)) r ⌝ }
-    ensures { λ r. ⌜ r ≤ 80 ⌝ }
+    ensures { λ r. ⌜ r ≤ lineRoom ⌝ }
 {
     let first = text::put(out, 0, b"refused");
     let second = put_word(out, first, number);

@@ -4,21 +4,21 @@ ghost use mathlib.Core.Path.{_≡_};
 ghost use lib.ListN.{length};
 ghost use Rattle.rules.specs.Checks.{verdictOf};
 ghost use Rattle.text.specs.Appends.{Appends};
-ghost use Rattle.report.specs.Reports.{lineOf};
+ghost use Rattle.report.specs.Reports.{lineRoom, lineOf};
 ghost use Rattle.verifying.specs.Input.{checkInput};
 use rules::Verdict;
 
 pub fn judge(input: &[u8]) {
-    let mut line = [0u8; 80];
+    let mut line = [0u8; report::LINE_ROOM];
     let count = put_verdict(&mut line, input);
     report::send(&line, count);
 }
 
 // The line that says what the check of the input comes to.
 fn put_verdict(line: &mut [u8], input: &[u8]) -> usize
-    requires { ⌜ 80 ≤ length (now line) ⌝ }
+    requires { ⌜ lineRoom ≤ length (now line) ⌝ }
     ensures { λ r. ⌜ Appends (now (line .entry)) 0 (lineOf (checkInput (now (input .entry)))) (now (line .exit)) r ⌝ }
-    ensures { λ r. ⌜ r ≤ 80 ⌝ }
+    ensures { λ r. ⌜ r ≤ lineRoom ⌝ }
 {
     match decide(input) {
         Verdict::Accepted(cost, operators, steps) => report::accepted(line, cost, operators, steps),

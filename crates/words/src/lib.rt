@@ -4,17 +4,20 @@ ghost use Prim.Native.Nat.{_+_, _≤_, _<_};
 ghost use lib.ListN.{length, getD, take};
 ghost use Rattle.rules.specs.Tables.{factCount, actionCount, taskCount, methodCount, startTask, startFacts, goalFacts, action, method};
 ghost use Rattle.words.specs.Words.{perAction, actionRead, actionAt, tableOf, Held};
+use rules::limits::MOST_ACTIONS;
+use rules::limits::MOST_METHODS;
 
-// The words of a table, of its header, of an action and of a method; where the methods begin. The contracts say them by the names of specs/Words.
-pub const SIZE: usize = 6147;
-
+// How many words a header, an action and a method take; where the methods begin; how many words a table takes. The contracts say
+// them by the names of specs/Words.
 pub const HEADER: usize = 7;
 
 pub const PER_ACTION: usize = 4;
 
 pub const PER_METHOD: usize = 10;
 
-pub const FIRST_METHOD: usize = 1027;
+pub const FIRST_METHOD: usize = HEADER + PER_ACTION * MOST_ACTIONS as usize;
+
+pub const SIZE: usize = FIRST_METHOD + PER_METHOD * MOST_METHODS as usize;
 
 pub fn fact_count(words: &[u64]) -> u64
     requires { ⌜ Held (now words) ⌝ }
