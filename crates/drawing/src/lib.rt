@@ -32,7 +32,14 @@ pub fn field(t: &mut [u8], pen: Pen, s: &[u8], n: u64) -> Pen
 }
 
 // Text, and the position plus o.
-pub fn moving(t: &mut [u8], lens: &mut [usize], offs: &mut [usize], pen: Pen, s: &[u8], o: usize) -> Pen
+pub fn moving(
+    t: &mut [u8],
+    lens: &mut [usize],
+    offs: &mut [usize],
+    pen: Pen,
+    s: &[u8],
+    o: usize,
+) -> Pen
     requires { ⌜ Room (Pieces.moving (now s) o) (now t) (now lens) (now offs) pen × (o ≤ mostOffset) ⌝ }
     ensures { λ r. ⌜ Draws (Pieces.moving (now (s .entry)) o) (now (t .entry)) (now (lens .entry)) (now (offs .entry)) pen (now (t .exit)) (now (lens .exit)) (now (offs .exit)) r ⌝ }
 {

@@ -5,22 +5,22 @@ use Rattle.template.proofs.TemplateLaws.{drawn-none, drawn-is}
 use Rattle.rows.specs.Rows.{rowAt}
 use Rattle.compose.specs.RowTexts.{setsOf}
 use Rattle.drawing.proofs.DrawLaws.{_▹_, space-after, room-less, room-after}
-use Rattle.compose.proofs.GroupLaws.{operator-cut, few-numbers, room-all, kept-low, altered-low, tasks-fit}
+use Rattle.compose.proofs.GroupLaws.{operator-cut, few-numbers, room-all, kept-low, altered-low, row-fits, tasks-fit}
 use lib.ListN.{getD}
 use Rattle.compose.proofs.compose.Statement.{statement}
 use Rattle.compose.proofs.compose.Tie as tie
 
-shared-slice-read-needs : tie.Need-shared-slice-read-needs
-shared-slice-read-needs c = omega (arith, c .before .before .before .before .before .before .pre .0 .words)
+needs-requires : tie.Need-needs-requires
+needs-requires c κs = row-fits (c .before .before .before .before .before .pre .0)
 
-shared-slice-read-adds : tie.Need-shared-slice-read-adds
-shared-slice-read-adds c = omega (arith, c .before .before .before .before .before .before .before .pre .0 .words)
+adds-requires : tie.Need-adds-requires
+adds-requires c κs = row-fits (c .before .before .before .before .before .before .pre .0)
 
-shared-slice-read-dels : tie.Need-shared-slice-read-dels
-shared-slice-read-dels c = omega (arith, c .before .before .before .before .before .before .before .before .pre .0 .words)
+dels-requires : tie.Need-dels-requires
+dels-requires c κs = row-fits (c .before .before .before .before .before .before .before .pre .0)
 
-shared-slice-read-cost : tie.Need-shared-slice-read-cost
-shared-slice-read-cost c = omega (arith, c .before .before .before .before .before .before .before .before .before .pre .0 .words)
+cost-requires : tie.Need-cost-requires
+cost-requires c κs = row-fits (c .before .before .before .before .before .before .before .before .pre .0)
 
 shared-slice-read-task : tie.Need-shared-slice-read-task
 shared-slice-read-task c = omega (arith, c .before .before .before .before .before .before .before .before .before .before .pre .0 .room)
@@ -120,10 +120,10 @@ pub compose-spec : {M : Type 1} → statement M
 compose-spec =
     tie.close
     (tie.spec
-    shared-slice-read-needs
-    shared-slice-read-adds
-    shared-slice-read-dels
-    shared-slice-read-cost
+    needs-requires
+    adds-requires
+    dels-requires
+    cost-requires
     shared-slice-read-task
     cast-task
     shared-slice-read-stay

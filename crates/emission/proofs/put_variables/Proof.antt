@@ -1,31 +1,32 @@
+use borrow.Author.Needs.{needs}
 use Prim.Native.Nat.{_+_, _*_, _-_, _≤_}
 use mathlib.Core.Path.{_≡_, ap}
 use native.Mathlib.Omega.{arith}
 use Rattle.basics.specs.Lists.{upto}
+use Rattle.rules.specs.Limits.{mostSectionBytes}
 use Rattle.rules.specs.Problems.{variableCount}
+use Rattle.laws.specs.Steps.{variableText}
 use Rattle.laws.proofs.TextLaws.{upto-more}
 use Rattle.words.specs.Words.{tableOf}
+use Rattle.problem.specs.Sizes.{mostVariables}
 use Rattle.text.specs.Appends.{Appends}
 use Rattle.text.proofs.AppendLaws.{_▸_, appends-is, appends-none}
-use borrow.Author.Needs.{needs}
 use Rattle.emission.proofs.put_variables.Statement.{statement}
 use Rattle.emission.proofs.put_variables.Tie as tie
 
 abbrev Inv-loop : tie.InvT-loop
 Inv-loop words bound out₀ at variables next₀ v₀ out next v =
-    (v ≤ variables) × Appends out₀ at (upto (variableText (tableOf words) bound) v) out next × (next ≤ at + 2048 * v) × (variables ≡ variableCount (tableOf words) bound) × (variables ≤ 129)
+    (v ≤ variables)
+    × Appends out₀ at (upto (variableText bound (tableOf words)) v) out next
+    × (next ≤ at + mostSectionBytes * v)
+    × (variables ≡ variableCount bound (tableOf words))
+    × (variables ≤ mostVariables)
 
 abbrev μ-loop : tie.MeasureT-loop
 μ-loop words bound out₀ at variables next₀ v₀ out next v = variables - v
 
-fact-count-requires : tie.Need-fact-count-requires Inv-loop μ-loop
-fact-count-requires c κs = search needs
-
-add-variables : tie.Need-add-variables Inv-loop μ-loop
-add-variables c = search needs
-
-add-variables-2 : tie.Need-add-variables-2 Inv-loop μ-loop
-add-variables-2 c = search needs
+variable-count-requires : tie.Need-variable-count-requires Inv-loop μ-loop
+variable-count-requires c κs = search needs
 
 loop-holds : tie.Need-loop-holds Inv-loop μ-loop
 unfolding upto
@@ -58,8 +59,8 @@ returns : tie.Need-returns Inv-loop μ-loop
 returns c =
     let l = c .before in
     let a = l .before .before .before .before .args in
-    let e : variableCount (tableOf (a .words .now)) (a .bound) ≡ l .loop .v = omega arith in
-    (appends-is (ap (upto (variableText (tableOf (a .words .now)) (a .bound))) e) (l .loop .inv .1), omega arith)
+    let e : variableCount (a .bound) (tableOf (a .words .now)) ≡ l .loop .v = omega arith in
+    (appends-is (ap (upto (variableText (a .bound) (tableOf (a .words .now)))) e) (l .loop .inv .1), omega arith)
 
 pub put-variables-spec : {M : Type 1} → statement M
 put-variables-spec =
@@ -67,9 +68,7 @@ put-variables-spec =
     (tie.spec
     Inv-loop
     μ-loop
-    fact-count-requires
-    add-variables
-    add-variables-2
+    variable-count-requires
     loop-holds
     put-variable-requires
     add-v
