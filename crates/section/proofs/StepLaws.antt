@@ -3,7 +3,7 @@ use mathlib.Core.Path.{_≡_, sym, ap, _∙_}
 use mathlib.Core.List.{List}
 use Prim.Native.Nat.{ℕ, suc, _+_, _≤_, _<_}
 use native.Mathlib.Omega.{arith}
-use lib.ListN.{length, getD}
+use lib.ListN.{length}
 use Rattle.basics.specs.Lists.{upto}
 use Rattle.rules.specs.Tables.{Table, factCount, taskCount, actionCount, methodCount}
 use Rattle.rules.specs.Operators.{positions}
@@ -15,6 +15,7 @@ use Rattle.laws.proofs.StepSizes.{positions-low}
 use Rattle.template.specs.declared.Pen.{Pen}
 use Rattle.template.specs.Templates.{Drawn, rendered}
 use Rattle.template.proofs.TemplateLaws.{drawn-is}
+use Rattle.rows.specs.Sizes.{rowWords, rowCells}
 use Rattle.rows.specs.Rows.{Row, rowAt, rowOf}
 use Rattle.compose.specs.RowTexts.{Fit, rowText}
 use Rattle.section.specs.declared.Composed.{Composed}
@@ -43,11 +44,11 @@ pub drawn-as : {facts none top free : ℕ} {label name s lens offs : List ℕ} {
 drawn-as r p q u d = drawn-is d (λ n. λ j. rowText (p j) (q j) (u j) r n)
 
 module _ (b f : ℕ) (t : Table) (i : ℕ) (ops cells : List ℕ) (e : rowAt ops cells 0 ≡ rowOf b f t (stepAt t i)) where
-  pub step-fit : Valid t → i < actionCount t + methodCount t → length ops ≡ 4 → length cells ≡ 12 → Fit (factCount t) (taskCount t) i ops cells
+  pub step-fit : Valid t → i < actionCount t + methodCount t → length ops ≡ rowWords → length cells ≡ rowCells → Fit (factCount t) (taskCount t) i ops cells
   step-fit v l p q = row-fit b f t i i ops cells v l (omega (arith, v .head .actions, v .head .methods)) e (omega arith) (omega arith)
 
   -- Its highest position.
-  pub step-count : getD cells 11 0 ≡ positions b f t (stepAt t i)
+  pub step-count : rowAt ops cells 0 .last ≡ positions b f t (stepAt t i)
   step-count = ap (λ (r : Row). r .last) e
 
   pub step-composed : {s lens offs : List ℕ} {pen : Pen} → Drawn s lens offs pen (stepRow t i (rowAt ops cells 0)) → Drawn s lens offs pen (stepOperator f t i)

@@ -20,6 +20,7 @@ ghost use Rattle.section.specs.Chosen.{Begins};
 ghost use Rattle.section.specs.Operators.{stepRow, stepOperator, IsComposed};
 use basics::Reply;
 use problem::Found;
+use rows::row;
 use rules::reasons::NO_SUCH_SECTION;
 use template::FIGURE_BYTES;
 use template::MOST_NUMBERS;
@@ -71,11 +72,11 @@ fn compose_step(
     ensures { λ r. ⌜ IsComposed bound form (tableOf (now (words .entry))) i (now (t .exit)) (now (lens .exit)) (now (offs .exit)) r ⌝ }
     ensures { λ _. ⌜ length (now (t .exit)) ≡ length (now (t .entry)) ⌝ }
 {
-    let mut ops = [0u64; 4];
-    let mut cells = [0u16; 12];
+    let mut ops = [0u64; row::WORDS];
+    let mut cells = [0u16; row::CELLS];
     rows::one_row(words, bound, form, i, &mut ops, &mut cells);
     let pen = compose_row(words, i, &ops, &cells, t, lens, offs);
-    let count = cells[11] as usize;
+    let count = row::last(&ops, &cells, 0) as usize;
     Composed { pen, count }
 }
 

@@ -1,8 +1,10 @@
 use Prim.Native.Nat.{zero-le}
+use mathlib.Core.Path.{_∙_}
 use mathlib.Core.List.{[]}
 use native.Mathlib.Omega.{arith}
 use Rattle.template.proofs.TemplateLaws.{drawn-none, drawn-is}
 use Rattle.rows.specs.Rows.{rowAt}
+use Rattle.compose.specs.Groups.{whole}
 use Rattle.compose.specs.RowTexts.{setsOf}
 use Rattle.drawing.proofs.DrawLaws.{_▹_, space-after, room-less, room-after}
 use Rattle.compose.proofs.GroupLaws.{operator-cut, few-numbers, room-all, kept-low, altered-low, row-fits, tasks-fit}
@@ -110,9 +112,14 @@ returns c =
     let stay = getD (a .cells .now) 9 0 in
     let d = o .opening .ensures ▹ p .prevails .ensures ▹ e .effects .ensures ▹ c .before .before .ending .ensures _ _ in
     let bottom = b .bottom-of in
+    let cost = b .before .before .before in
+    let dels = cost .before in
+    let adds = dels .before in
+    let needs = adds .before in
     let n = few-numbers stay (row .task) (bottom .result) (f .stay) in (
       drawn-is (d .drawn (λ p. []) (drawn-none (a .t .now) (a .lens .now) (a .offs .now)))
-          (λ p. operator-cut (a .top) (a .free) (setsOf row) (row .task) (a .cells .now) stay p (bottom .result) (bottom .ensures .0) (a .letter) (a .k) (row .cost) (kept-low f) (altered-low f)),
+          (λ p. (λ i. whole (a .top) (a .letter) (a .k) (needs .needs .ensures i) (adds .adds .ensures i) (dels .dels .ensures i) stay (row .task) (bottom .result) (a .cells .now) (cost .cost .ensures i) .text p)
+          ∙ operator-cut (a .top) (a .free) (setsOf row) (row .task) (a .cells .now) stay p (bottom .result) (bottom .ensures .0) (a .letter) (a .k) (row .cost) (kept-low f) (altered-low f)),
       (omega (arith, d .most, d .count, n), d .size),
     )
 
