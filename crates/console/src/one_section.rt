@@ -8,6 +8,7 @@ ghost use Rattle.rules.specs.Refusals.{sectionFor, oneSection, written};
 ghost use Rattle.words.specs.Words.{tableOf, Held};
 use basics::Reply;
 use opening::Opening;
+use rules::limits::MOST_SECTION_BYTES;
 use rules::reasons::NO_ROOM;
 
 // The length of a section of an opened table where there is room for it from the place on; nothing is written.
@@ -15,7 +16,7 @@ fn measured(words: &[u64], bound: u64, form: u64, index: u64, size: usize, at: u
     requires { ⌜ Held (now words) × (1 ≤ bound) × (bound ≤ mostBound) ⌝ }
     ensures { λ r. ⌜ replyOf r ≡ lengthOf (sectionFor bound form (tableOf (now (words .entry))) index size at) ⌝ }
 {
-    let mut space = [0u8; 4096];
+    let mut space = [0u8; MOST_SECTION_BYTES];
     match section::put_section(words, bound, form, index, &mut space) {
         Reply::Refused(number, place) => Reply::Refused(number, place),
         Reply::Value(bytes) => crate::rooms::room(bytes, size as u64, at),
@@ -39,7 +40,7 @@ fn put(words: &[u64], bound: u64, form: u64, index: u64, part: &mut [u8]) -> Rep
     ensures { λ r. ⌜ replyOf r ≡ lengthOf (sectionFor bound form (tableOf (now (words .entry))) index (length (now (part .entry))) 0) ⌝ }
     ensures { λ _. ⌜ now (part .exit) ≡ written (now (part .entry)) 0 (sectionFor bound form (tableOf (now (words .entry))) index (length (now (part .entry))) 0) ⌝ }
 {
-    let mut space = [0u8; 4096];
+    let mut space = [0u8; MOST_SECTION_BYTES];
     match section::put_section(words, bound, form, index, &mut space) {
         Reply::Refused(number, place) => Reply::Refused(number, place),
         Reply::Value(bytes) => {

@@ -22,6 +22,9 @@ const STEP_SPACE: usize = template::STEP_BYTES + template::MARGIN;
 
 const PART_BYTES: usize = 524288;
 
+// Bound, form and a table one byte too long: what follows is not looked at.
+pub const MOST_INPUT: usize = 2 + rules::limits::MOST_TABLE_BYTES + 1;
+
 pub fn emit(input: &[u8]) {
     let mut words = [0u64; words::SIZE];
     match open_input(input, &mut words) {

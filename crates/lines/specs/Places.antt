@@ -10,6 +10,10 @@ use Rattle.lines.specs.declared.Digits.the-variants.{Got, No}
 use Rattle.lines.specs.declared.Line.{Line}
 use Rattle.lines.specs.declared.Line.the-variants.{Op, Comment, Shape}
 
+-- `(m999 999)` and its line feed.
+abbrev pub longestLine : ℕ
+longestLine = 11
+
 -- One to three digits, no leading zero but 0 itself.
 unfoldable pub smallAt : List ℕ → ℕ → Digits
 smallAt s at =

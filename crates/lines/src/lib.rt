@@ -2,9 +2,13 @@
 ghost use mathlib.Core.Path.{_≡_};
 ghost use Prim.Native.Nat.{ℕ, _+_, _≤_, _<_};
 ghost use lib.ListN.{length, getD, drop};
+ghost use Rattle.rules.specs.Limits.{mostPlanBytes};
 ghost use Rattle.rules.specs.Plans.{isDigit};
-ghost use Rattle.lines.specs.Places.{smallAt, operatorAt, kindOf, feedAt};
+ghost use Rattle.lines.specs.Places.{longestLine, smallAt, operatorAt, kindOf, feedAt};
 ghost use Rattle.lines.specs.Lines.{IsLine};
+
+// `(m999 999)` and its line feed.
+const LONGEST_LINE: usize = 11;
 
 // Kind (0 action, 1 method), number, position and the next place; a comment and the next place; another shape.
 pub enum Line {
@@ -67,7 +71,7 @@ fn small_in(s: &[u8], at: usize) -> Digits
 
 // A number, wherever the text ends.
 fn small(s: &[u8], at: usize) -> Digits
-    requires { ⌜ at < 70000 ⌝ }
+    requires { ⌜ at < mostPlanBytes + longestLine ⌝ }
     ensures { λ r. ⌜ r ≡ smallAt (now (s .entry)) at ⌝ }
 {
     let first = byte(s, at);
@@ -103,7 +107,7 @@ fn kind_of(k: u64) -> u64
 
 // What follows the opening bracket, with the longest line's bytes there.
 fn operator_in(s: &[u8], at: usize) -> Line
-    requires { ⌜ at + 11 ≤ length (now s) ⌝ }
+    requires { ⌜ at + longestLine ≤ length (now s) ⌝ }
     ensures { λ r. ⌜ r ≡ operatorAt (now (s .entry)) at ⌝ }
 {
     let k = wide(s[at + 1]);
@@ -138,7 +142,7 @@ fn operator_in(s: &[u8], at: usize) -> Line
 
 // What follows the opening bracket, wherever the text ends.
 fn operator(s: &[u8], at: usize) -> Line
-    requires { ⌜ at < 65536 ⌝ }
+    requires { ⌜ at < mostPlanBytes ⌝ }
     ensures { λ r. ⌜ r ≡ operatorAt (now (s .entry)) at ⌝ }
 {
     let k = byte(s, at + 1);
@@ -187,12 +191,12 @@ fn feed_from(s: &[u8], at: usize) -> usize
 
 // The line at a place.
 pub fn line_at(s: &[u8], at: usize) -> Line
-    requires { ⌜ (at < length (now s)) × (length (now s) ≤ 65536) ⌝ }
+    requires { ⌜ (at < length (now s)) × (length (now s) ≤ mostPlanBytes) ⌝ }
     ensures { λ r. ⌜ IsLine (now (s .entry)) at r ⌝ }
 {
     let c = wide(s[at]);
     if c == 40 {
-        if at + 11 <= s.len() {
+        if at + LONGEST_LINE <= s.len() {
             return operator_in(s, at);
         }
         return operator(s, at);

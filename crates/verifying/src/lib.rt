@@ -8,6 +8,9 @@ ghost use Rattle.report.specs.Reports.{lineRoom, lineOf};
 ghost use Rattle.verifying.specs.Input.{checkInput};
 use rules::Verdict;
 
+// The header, the longest table that two bytes of length can name, and a plan one byte too long: what follows is not looked at.
+pub const MOST_INPUT: usize = 4 + 65535 + rules::limits::MOST_PLAN_BYTES + 1;
+
 pub fn judge(input: &[u8]) {
     let mut line = [0u8; report::LINE_ROOM];
     let count = put_verdict(&mut line, input);
