@@ -1,5 +1,5 @@
--- The steps of a table by one number, its actions, then its methods; and the emitted text part by part.
-use Prim.Native.Nat.{ℕ, suc, _-_}
+-- The steps of a table by one number, its actions, then its methods, or by kind and number; and the emitted text part by part.
+use Prim.Native.Nat.{ℕ, zero, suc, _-_}
 use mathlib.Core.Bool.{cond}
 use mathlib.Core.List.{List, _++_}
 use lib.Dec.{ltb}
@@ -12,6 +12,11 @@ use Rattle.version3.specs.Spelling.{preamble, spellVariable, middle, spellOper}
 
 abbrev pub stepAt : Table → ℕ → Step
 stepAt t i = cond (ltb i (actionCount t)) (act i) (mth (i - actionCount t))
+
+-- Kind 0 is an action, any other a method.
+abbrev pub kindStep : ℕ → ℕ → Step
+kindStep zero k = act k
+kindStep (suc n) k = mth k
 
 -- The sections of a variable and of an operator.
 abbrev pub variableText : ℕ → Table → ℕ → List ℕ

@@ -1,17 +1,20 @@
 -- The ways out of a number and of a line, for bytes in hand.
-use mathlib.Core.Path.{_≡_, refl, sym, ap, _∙_}
+use mathlib.Core.Path.{_≡_, refl, sym, ap, subst, _∙_}
 use mathlib.Core.Bool.{Bool, true, false, _&&_, cond, false≢true}
 use mathlib.Core.List.{List}
 use Prim.Native.Nat.{ℕ, _+_, _-_, _*_, _≤_, _<_}
 use native.Mathlib.Omega.{arith}
+use native.Mathlib.Decide.{decLe}
 use lib.Dec.{leb, eqb}
-use lib.ListN.{length, getD, drop, drop-of-length-le}
+use lib.ListN.{length, getD, drop, List·getD-eq-default}
 use lib.Seq.{drop-cons}
 use native.Mathlib.Numerals.{add-one}
 use borrow.Author.Tests.{leb-true, eq-eqb, ne-eqb, lt-ltb, le-ltb}
 use mathlib.Core.Logic.{_≢_}
 use Rattle.rules.specs.Plans.{isDigit}
 use Rattle.lines.specs.Places.{smallAt, closed, positioned, kindOf, operatorAt, feedAt, lineAt}
+use Rattle.lines.specs.Lines.{Fed, Whole}
+use Rattle.lines.specs.declared.Digits.{Digits}
 use Rattle.lines.specs.declared.Digits.the-variants.{Got, No}
 use Rattle.lines.specs.declared.Line.the-variants.{Op, Comment, Shape}
 
@@ -47,23 +50,63 @@ module _ (s : List ℕ) (at a : ℕ) (ea : a ≡ getD s at 0) where
         unfolding smallAt
         small-three f = rw (← ea, d, ← eb, e, ne-eqb a 48 z, ← ec, f)
 
--- How far a number reaches.
-pub small-ends : (s : List ℕ) (at v q : ℕ) → smallAt s at ≡ Got v q → (at ≤ q) × (q ≤ at + 3)
+-- A line feed comes: the place is inside, and after another byte it comes still.
+module _ {s : List ℕ} {at : ℕ} (f : Fed s at) where
+  pub fed-inside : at < length s
+  fed-inside = omega (arith, f .ahead, f .within)
+
+  module _ {x : ℕ} (e : x ≡ getD s at 0) where
+    pub fed-on : x ≢ 10 → (q : ℕ) → q ≡ at + 1 → Fed s q
+    fed-on n q o =
+        let d : at ≢ f .feed = λ h. n (e ∙ ap (λ (i : ℕ). getD s i 0) h ∙ f .ends) in
+        record { feed = f .feed; ahead = omega (arith, f .ahead, d, o); within = f .within; ends = f .ends }
+
+    pub fed-digit : isDigit x ≡ true → (q : ℕ) → q ≡ at + 1 → Fed s q
+    fed-digit d = fed-on (λ h. omega (arith, digit-range x d))
+
+-- So it does after a number.
+pub small-fed : {s : List ℕ} {at v q : ℕ} → Fed s at → smallAt s at ≡ Got v q → Fed s q
 unfolding smallAt
-small-ends s at v q h = go (isDigit (getD s at 0)) (isDigit (getD s (at + 1) 0)) (eqb (getD s at 0) 48) (isDigit (getD s (at + 2) 0)) _ _ _ h
+small-fed {s} {at} {v} {q} f h = go (isDigit (getD s at 0)) refl (isDigit (getD s (at + 1) 0)) refl (eqb (getD s at 0) 48) (isDigit (getD s (at + 2) 0)) refl _ _ _ h
   where
-    ends : (x y : ℕ) → y ≤ at + 3 → at ≤ y → Got x y ≡ Got v q → (at ≤ q) × (q ≤ at + 3)
-    ends x y l m e = let z : y ≡ q = cc in (omega arith, omega arith)
+    ends : (x y : ℕ) → Fed s y → Got x y ≡ Got v q → Fed s q
+    ends x y g e = let z : y ≡ q = cc in subst (λ (i : ℕ). Fed s i) z g
 
-    go : (a b z c : Bool) (x1 x2 x3 : ℕ)
-        → cond a (cond b (cond z No (cond c (Got x3 (at + 3)) (Got x2 (at + 2)))) (Got x1 (at + 1))) No ≡ Got v q → (at ≤ q) × (q ≤ at + 3)
-    go true true true c x1 x2 x3 e = let z : _≡_ {A = ℕ} 0 1 = cc in omega arith
-    go true true false true x1 x2 x3 e = ends x3 (at + 3) (omega arith) (omega arith) e
-    go true true false false x1 x2 x3 e = ends x2 (at + 2) (omega arith) (omega arith) e
-    go true false z c x1 x2 x3 e = ends x1 (at + 1) (omega arith) (omega arith) e
-    go false b z c x1 x2 x3 e = let z : _≡_ {A = ℕ} 0 1 = cc in omega arith
+    one : isDigit (getD s at 0) ≡ true → Fed s (at + 1)
+    one a = fed-digit f refl a (at + 1) refl
 
--- The ways out of a line.
+    two : isDigit (getD s at 0) ≡ true → isDigit (getD s (at + 1) 0) ≡ true → Fed s (at + 2)
+    two a b = fed-digit (one a) refl b (at + 2) (omega arith)
+
+    go : (a : Bool) → isDigit (getD s at 0) ≡ a → (b : Bool) → isDigit (getD s (at + 1) 0) ≡ b → (z c : Bool) → isDigit (getD s (at + 2) 0) ≡ c
+        → (x1 x2 x3 : ℕ) → cond a (cond b (cond z No (cond c (Got x3 (at + 3)) (Got x2 (at + 2)))) (Got x1 (at + 1))) No ≡ Got v q → Fed s q
+    go true a true b true c e x1 x2 x3 g = let z : _≡_ {A = ℕ} 0 1 = cc in absurd (omega arith)
+    go true a true b false true e x1 x2 x3 g = ends x3 (at + 3) (fed-digit (two a b) refl e (at + 3) (omega arith)) g
+    go true a true b false false e x1 x2 x3 g = ends x2 (at + 2) (two a b) g
+    go true a false b z c e x1 x2 x3 g = ends x1 (at + 1) (one a) g
+    go false a b e z c d x1 x2 x3 g = let z : _≡_ {A = ℕ} 0 1 = cc in absurd (omega arith)
+
+-- The ways out after a position, by its closing bracket y and whether the line ends after it.
+module _ (s : List ℕ) (kind number pos q y : ℕ) (ey : y ≡ getD s q 0) where
+  pub close-other : y ≢ 41 → Shape ≡ closed s kind number (Got pos q)
+  close-other n = rw (← ey, ne-eqb y 41 n)
+
+  module _ (e : y ≡ 41) {end : Bool} (ee : end ≡ eqb (getD s (q + 1) 0) 10) where
+    pub close-on : end ≡ false → Shape ≡ closed s kind number (Got pos q)
+    close-on n = rw (← ey, eq-eqb y 41 e, ← ee, n)
+
+    pub close-ends : end ≡ true → Op kind number pos (q + 2) ≡ closed s kind number (Got pos q)
+    close-ends n = rw (← ey, eq-eqb y 41 e, ← ee, n)
+
+-- After a name, by the space x.
+module _ (s : List ℕ) (kind number p x : ℕ) (ex : x ≡ getD s p 0) where
+  pub space-other : x ≢ 32 → Shape ≡ positioned s kind (Got number p)
+  space-other n = rw (← ex, ne-eqb x 32 n)
+
+  pub space-on : x ≡ 32 → {d : Digits} → d ≡ smallAt s (p + 1) → closed s kind number d ≡ positioned s kind (Got number p)
+  space-on e h = rw (← ex, eq-eqb x 32 e) (ap (closed s kind number) h)
+
+-- The ways out of an operator, by the letter k.
 module _ (s : List ℕ) (at k kind : ℕ) (ek : k ≡ getD s (at + 1) 0) (kk : kind ≡ kindOf k) where
   kind-is : kindOf (getD s (at + 1) 0) ≡ kind
   kind-is = sym (kk ∙ ap kindOf ek)
@@ -77,37 +120,15 @@ module _ (s : List ℕ) (at k kind : ℕ) (ek : k ≡ getD s (at + 1) 0) (kk : k
     unfolding operatorAt
     after-kind = rw (kind-is, le-ltb 1 kind h)
 
-    pub line-none : smallAt s (at + 2) ≡ No → Shape ≡ operatorAt s at
-    line-none e = sym (after-kind ∙ ap (positioned s kind) e)
+    pub name-on : {d : Digits} → d ≡ smallAt s (at + 2) → positioned s kind d ≡ operatorAt s at
+    name-on e = ap (positioned s kind) e ∙ sym after-kind
 
-    module _ (number p x : ℕ) (e : smallAt s (at + 2) ≡ Got number p) (ex : x ≡ getD s p 0) where
-      pub line-space : x ≢ 32 → Shape ≡ operatorAt s at
-      line-space n = sym (after-kind ∙ ap (positioned s kind) e ∙ rw (← ex, ne-eqb x 32 n))
-
-      module _ (w : x ≡ 32) where
-        next : operatorAt s at ≡ closed s kind number (smallAt s (p + 1))
-        next = after-kind ∙ ap (positioned s kind) e ∙ rw (← ex, eq-eqb x 32 w)
-
-        pub line-none-2 : smallAt s (p + 1) ≡ No → Shape ≡ operatorAt s at
-        line-none-2 f = sym (next ∙ ap (closed s kind number) f)
-
-        module _ (pos q y : ℕ) (f : smallAt s (p + 1) ≡ Got pos q) (ey : y ≡ getD s q 0) where
-          pub line-bracket : y ≢ 41 → Shape ≡ operatorAt s at
-          line-bracket n = sym (next ∙ ap (closed s kind number) f ∙ rw (← ey, ne-eqb y 41 n))
-
-          module _ (v : y ≡ 41) (z : ℕ) (ez : z ≡ getD s (q + 1) 0) where
-            pub line-feed : z ≢ 10 → Shape ≡ operatorAt s at
-            line-feed n = sym (next ∙ ap (closed s kind number) f ∙ rw (← ey, eq-eqb y 41 v, ← ez, ne-eqb z 10 n))
-
-            pub line-op : z ≡ 10 → Op kind number pos (q + 2) ≡ operatorAt s at
-            line-op u = sym (next ∙ ap (closed s kind number) f ∙ rw (← ey, eq-eqb y 41 v, ← ez, eq-eqb z 10 u))
+  -- A letter is no line feed.
+  pub letter-byte : kind ≤ 1 → k ≢ 10
+  letter-byte h e = let n : kind ≡ 2 = kk ∙ ap kindOf e in omega arith
 
 -- The line feed from a place on.
 module _ (s : List ℕ) (i : ℕ) where
-  pub feed-end : length s ≤ i → feedAt (drop i s) ≡ 0
-  unfolding feedAt
-  feed-end h = rw (drop-of-length-le s h)
-
   pub feed-stop : i < length s → getD s i 0 ≡ 10 → feedAt (drop i s) ≡ 0
   unfolding feedAt
   feed-stop h b = rw (drop-cons s i 0 h, eq-eqb _ _ b)
@@ -115,6 +136,26 @@ module _ (s : List ℕ) (i : ℕ) where
   pub feed-more : i < length s → getD s i 0 ≢ 10 → feedAt (drop i s) ≡ feedAt (drop (i + 1) s) + 1
   unfolding feedAt
   feed-more h b = rw (drop-cons s i 0 h, ne-eqb _ _ b, add-one, add-one)
+
+-- No line feed from a place on: none after the end, and one byte less at a time.
+module _ (s : List ℕ) where
+  pub none-past : (i : ℕ) → length s ≤ i → getD s i 0 ≢ 10
+  none-past i l e = let z : getD s i 0 ≡ 0 = List·getD-eq-default s 0 l in omega arith
+
+  module _ {n : ℕ} (h : (i : ℕ) → n ≤ i → getD s i 0 ≢ 10) (some : 0 < n) {last : ℕ} (e : last ≡ n - 1) where
+    pub none-from : getD s last 0 ≢ 10 → (i : ℕ) → last ≤ i → getD s i 0 ≢ 10
+    none-from b i l =
+        elim (decLe n i) [
+          | yes g ↦ h i g
+          | no g ↦ (let o : i ≡ last = omega arith in λ q. b (ap (λ (j : ℕ). getD s j 0) (sym o) ∙ q))
+        ]
+
+    pub whole-found : n ≤ length s → getD s last 0 ≡ 10 → Whole s n
+    whole-found l b =
+        record { within = l; fed = λ at g. record { feed = last; ahead = omega arith; within = omega arith; ends = b }; none-after = h }
+
+  pub whole-none : {n : ℕ} → ((i : ℕ) → n ≤ i → getD s i 0 ≢ 10) → n ≤ 0 → Whole s n
+  whole-none h z = record { within = omega arith; fed = λ at g. absurd (omega arith); none-after = h }
 
 -- The ways out of a line by its first byte.
 module _ (s : List ℕ) (at c : ℕ) (ec : c ≡ getD s at 0) where
@@ -127,11 +168,6 @@ module _ (s : List ℕ) (at c : ℕ) (ec : c ≡ getD s at 0) where
     unfolding lineAt
     at-other g = rw (← ec, ne-eqb c 40 h, ne-eqb c 59 g)
 
-    module _ (g : c ≡ 59) (e : ℕ) (ee : e ≡ at + feedAt (drop at s)) where
-      pub at-comment : e < length s → Comment (e + 1) ≡ lineAt s at
-      unfolding lineAt
-      at-comment l = rw (← ec, ne-eqb c 40 h, eq-eqb c 59 g, ← ee, lt-ltb e (length s) l)
-
-      pub at-cut : length s ≤ e → Shape ≡ lineAt s at
-      unfolding lineAt
-      at-cut l = rw (← ec, ne-eqb c 40 h, eq-eqb c 59 g, ← ee, le-ltb e (length s) l)
+    pub at-comment : c ≡ 59 → (e : ℕ) → e ≡ at + feedAt (drop at s) → Comment (e + 1) ≡ lineAt s at
+    unfolding lineAt
+    at-comment g e q = rw (← ec, ne-eqb c 40 h, eq-eqb c 59 g, ← q)

@@ -11,15 +11,16 @@ use lib.Seq.{getD-drop, drop-drop, drop-cons, drop-append-add}
 use borrow.Author.Tests.{eqb-true, eqb-false, ne-eqb}
 use Rattle.rules.specs.Plans as plans
 use Rattle.rules.specs.Plans.{note, oper, other, isDigit, read, unread, more, number, ending, position, space, named, letter, lineOf, leftover, linesOf}
-use Rattle.laws.proofs.TestLaws.{and-l, and-r}
+use Rattle.laws.proofs.TestLaws.{and-l, and-r, and-i}
 use Rattle.laws.proofs.PlanLaws.{no-more, noFeed, not-feed, no-feed-at, by-feed, fed, unfed}
 use Rattle.lines.specs.declared.Digits.{Digits}
 use Rattle.lines.specs.declared.Digits.the-variants.{Got, No}
 use Rattle.lines.specs.declared.Line.{Line}
 use Rattle.lines.specs.declared.Line.the-variants.{Op, Comment, Shape}
-use Rattle.lines.specs.Places.{smallAt, closed, positioned, kindOf, operatorAt, feedAt, lineAt}
-use Rattle.lines.specs.Lines.{kindStep, IsLine}
-use Rattle.lines.proofs.LineLaws.{digit-range, small-none, small-one, small-zero, small-two, small-three, small-ends, line-kind, after-kind, at-operator, at-other, at-comment, at-cut}
+use Rattle.lines.specs.Places.{shortestLine, smallAt, closed, positioned, kindOf, operatorAt, feedAt, lineAt}
+use Rattle.laws.specs.Steps.{kindStep}
+use Rattle.lines.specs.Lines.{Fed, Whole, IsLine}
+use Rattle.lines.proofs.LineLaws.{digit-range, small-none, small-one, small-zero, small-two, small-three, line-kind, after-kind, at-operator, at-other, at-comment}
 
 -- The bytes from p on: cs, a line feed, rest.
 abbrev Ahead : List ℕ → List ℕ → ℕ → List ℕ → Type 0
@@ -129,7 +130,7 @@ module _ (s rest : List ℕ) (p : ℕ) where
 
 -- What the code says of a line, and what the document does.
 data Agrees (s rest : List ℕ) (at : ℕ) : Line → plans.Line → Type 0 where
-  operators : (kind number pos next : ℕ) → drop next s ≡ rest → at + 2 ≤ next → next ≤ length s → kind ≤ 1 → number < 1000 → pos < 1000
+  operators : (kind number pos next : ℕ) → drop next s ≡ rest → at + shortestLine ≤ next → next ≤ length s → kind ≤ 1 → number < 1000 → pos < 1000
       → Agrees s rest at (Op kind number pos next) (oper (record { what = kindStep kind number; at = pos }))
   comments : (next : ℕ) → drop next s ≡ rest → at < next → next ≤ length s → Agrees s rest at (Comment next) note
   shapes : Agrees s rest at Shape other
@@ -140,7 +141,7 @@ agreed s rest at {c} {d} {l} {m} f g h =
 
 module _ (s rest : List ℕ) (at kind : ℕ) (k : kind ≤ 1) where
   -- The bytes after a position.
-  bracket-read : (number i q : ℕ) (cs : List ℕ) → number < 1000 → i < 1000 → at < q → Ahead s rest q cs → T (noFeed cs)
+  bracket-read : (number i q : ℕ) (cs : List ℕ) → number < 1000 → i < 1000 → at + 5 ≤ q → Ahead s rest q cs → T (noFeed cs)
       → Agrees s rest at (closed s kind number (Got i q)) (ending (kindStep kind number) i cs)
   bracket-read number i q [] ln li lq h n = agreed s rest at (rw (← byte-at s rest q [] h)) refl shapes
   bracket-read number i q (c ∷ []) ln li lq h n = go (eqb c 41) refl
@@ -172,14 +173,14 @@ module _ (s rest : List ℕ) (at kind : ℕ) (k : kind ≤ 1) where
           (rw (← byte-at s rest q (c ∷ d ∷ cs) h, e, ← byte-at s rest (q + 1) (d ∷ cs) on, ne-eqb d 10 other-byte)) refl shapes
       go false e = agreed s rest at (rw (← byte-at s rest q (c ∷ d ∷ cs) h, e)) refl shapes
 
-  position-read : (number p : ℕ) {d : Digits} {e : plans.Digits} → number < 1000 → at < p → Alike s rest p d e
+  position-read : (number p : ℕ) {d : Digits} {e : plans.Digits} → number < 1000 → at + 4 ≤ p → Alike s rest p d e
       → Agrees s rest at (closed s kind number d) (position (kindStep kind number) e)
   position-read number p ln lp neither = shapes
   position-read number p ln lp (zero-led d [] h) = rw (ne-eqb d 41 (not-digit d 41 h refl)) shapes
   position-read number p ln lp (zero-led d (b ∷ cs) h) = shapes
   position-read number p ln lp (both i q cs li lq h n) = bracket-read number i q cs ln li (omega arith) h n
 
-  space-read : (number q : ℕ) (cs : List ℕ) → number < 1000 → at < q → Ahead s rest q cs → T (noFeed cs)
+  space-read : (number q : ℕ) (cs : List ℕ) → number < 1000 → at + 3 ≤ q → Ahead s rest q cs → T (noFeed cs)
       → Agrees s rest at (positioned s kind (Got number q)) (space (kindStep kind number) cs)
   space-read number q [] ln lq h n = agreed s rest at (rw (← byte-at s rest q [] h)) refl shapes
   space-read number q (c ∷ cs) ln lq h n = go (eqb c 32) refl
@@ -191,7 +192,7 @@ module _ (s rest : List ℕ) (at kind : ℕ) (k : kind ≤ 1) where
           (number-read s rest (q + 1) cs (step-on s rest q c cs h (q + 1) refl) (and-r (not (eqb c 10)) (noFeed cs) n)))
       go false e = agreed s rest at (rw (← byte-at s rest q (c ∷ cs) h, e)) (rw e) shapes
 
-  name-read : (p : ℕ) {d : Digits} {e : plans.Digits} → at < p → Alike s rest p d e → Agrees s rest at (positioned s kind d) (named (kindStep kind) e)
+  name-read : (p : ℕ) {d : Digits} {e : plans.Digits} → at + 2 ≤ p → Alike s rest p d e → Agrees s rest at (positioned s kind d) (named (kindStep kind) e)
   name-read p lp neither = shapes
   name-read p lp (zero-led d cs h) = rw (ne-eqb d 32 (not-digit d 32 h refl)) shapes
   name-read p lp (both number q cs ln lq h n) = space-read number q cs ln (omega arith) h n
@@ -223,12 +224,6 @@ feed-after [] rest h = refl
 feed-after (c ∷ cs) rest h =
     rw (ne-eqb c 10 (not-feed c (and-l (not (eqb c 10)) (noFeed cs) h))) (ap suc (feed-after cs rest (and-r (not (eqb c 10)) (noFeed cs) h)))
 
-feed-none : (ds : List ℕ) → T (noFeed ds) → feedAt ds ≡ length ds
-unfolding feedAt
-feed-none [] h = refl
-feed-none (c ∷ cs) h =
-    rw (ne-eqb c 10 (not-feed c (and-l (not (eqb c 10)) (noFeed cs) h))) (ap suc (feed-none cs (and-r (not (eqb c 10)) (noFeed cs) h)))
-
 -- A line that ends with a line feed.
 module _ (s rest : List ℕ) (at : ℕ) where
   line-read : (cs : List ℕ) → Ahead s rest at cs → T (noFeed cs) → Agrees s rest at (lineAt s at) (lineOf cs)
@@ -247,7 +242,7 @@ module _ (s rest : List ℕ) (at : ℕ) where
       go : (x : Bool) → eqb c 59 ≡ x → (y : Bool) → eqb c 40 ≡ y → Agrees s rest at (lineAt s at) (lineOf (c ∷ cs))
       go true e y f =
           agreed s rest at
-          (at-comment s at c byte (λ z. omega (arith, eqb-true c 59 e)) (eqb-true c 59 e) (at + length (c ∷ cs)) feed inside)
+          (at-comment s at c byte (λ z. omega (arith, eqb-true c 59 e)) (eqb-true c 59 e) (at + length (c ∷ cs)) feed)
           (rw e)
           (comments (at + length (c ∷ cs) + 1) (rest-at s rest at (c ∷ cs) h) (omega arith) (omega (arith, inside)))
       go false e true f =
@@ -255,48 +250,16 @@ module _ (s rest : List ℕ) (at : ℕ) where
           (operator-read s rest at cs (step-on s rest at c cs h (at + 1) refl) (and-r (not (eqb c 10)) (noFeed cs) n))
       go false e false f = agreed s rest at (at-other s at c byte (eqb-false c 40 f) (eqb-false c 59 e)) (rw (e, f)) shapes
 
--- A line without line feed.
-module _ (s : List ℕ) (at : ℕ) (n : T (noFeed (drop at s))) where
-  no-feed-from : (p : ℕ) → at ≤ p → getD s p 0 ≢ 10
-  no-feed-from p l e =
-      let o : at + (p - at) ≡ p = omega arith in
-      no-feed-at (drop at s) n (p - at) (getD-drop at s (p - at) 0 ∙ ap (λ (m : ℕ). getD s m 0) o ∙ e)
+-- No line feed from a place on.
+none-left : (ds : List ℕ) → ((i : ℕ) → getD ds i 0 ≢ 10) → T (noFeed ds)
+none-left [] h = tt
+none-left (d ∷ ds) h = and-i (not (eqb d 10)) (noFeed ds) (rw (ne-eqb d 10 (h 0)) tt) (none-left ds (λ i. h (suc i)))
 
-  either : (x : Bool) → cond x Shape Shape ≡ Shape
-  either true = refl
-  either false = refl
-
-  closed-cut : (kind number p : ℕ) (d : Digits) → at ≤ p → smallAt s p ≡ d → closed s kind number d ≡ Shape
-  closed-cut kind number p No l e = refl
-  closed-cut kind number p (Got i q) l e =
-      let o : at ≤ q + 1 = omega (arith, small-ends s p i q e) in
-      rw (ne-eqb (getD s (q + 1) 0) 10 (no-feed-from (q + 1) o)) (either (eqb (getD s q 0) 41))
-
-  positioned-cut : (kind p : ℕ) (d : Digits) → at ≤ p → smallAt s p ≡ d → positioned s kind d ≡ Shape
-  positioned-cut kind p No l e = refl
-  positioned-cut kind p (Got number q) l e =
-      let o : at ≤ q + 1 = omega (arith, small-ends s p number q e) in
-      rw (closed-cut kind number (q + 1) (smallAt s (q + 1)) o refl) (either (eqb (getD s q 0) 32))
-
-  operator-cut : operatorAt s at ≡ Shape
-  unfolding operatorAt
-  operator-cut =
-      rw (positioned-cut (kindOf (getD s (at + 1) 0)) (at + 2) (smallAt s (at + 2)) (omega arith) refl)
-      (either (ltb 1 (kindOf (getD s (at + 1) 0))))
-
-  line-cut : at < length s → lineAt s at ≡ Shape
-  line-cut l = go (eqb (getD s at 0) 40) refl (eqb (getD s at 0) 59) refl
-    where
-      go : (x : Bool) → eqb (getD s at 0) 40 ≡ x → (y : Bool) → eqb (getD s at 0) 59 ≡ y → lineAt s at ≡ Shape
-      go true e y f = sym (at-operator s at (getD s at 0) refl (eqb-true _ 40 e)) ∙ operator-cut
-      go false e true f =
-          sym (at-cut s at (getD s at 0) refl (eqb-false _ 40 e) (eqb-true _ 59 f) (at + feedAt (drop at s)) refl
-          (omega (arith, feed-none (drop at s) n, length-drop at s)))
-      go false e false f = sym (at-other s at (getD s at 0) refl (eqb-false _ 40 e) (eqb-false _ 59 f))
-
-  left-over : at < length s → linesOf (drop at s) ≡ other ∷ []
-  unfolding linesOf
-  left-over l = unfed [] (drop at s) n ∙ ap leftover (drop-cons s at 0 l)
+pub left-over : {s : List ℕ} {end : ℕ} → Whole s end → (at : ℕ) → end ≤ at → at < length s → linesOf (drop at s) ≡ other ∷ []
+unfolding linesOf
+left-over {s} w at h l =
+    unfed [] (drop at s) (none-left (drop at s) (λ i e. w .none-after (at + i) (omega arith) (sym (getD-drop at s i 0) ∙ e)))
+    ∙ ap leftover (drop-cons s at 0 l)
 
 first-line : (s rest : List ℕ) (at : ℕ) {r : Line} {l : plans.Line} → linesOf (drop at s) ≡ l ∷ linesOf rest → Agrees s rest at r l → IsLine s at r
 first-line s rest at e (operators kind number pos next b o w k ln lp) =
@@ -311,15 +274,18 @@ first-line s rest at e (operators kind number pos next b o w k ln lp) =
 first-line s rest at e (comments next b o w) = record { lines = e ∙ ap (λ (ds : List ℕ). note ∷ linesOf ds) (sym b); onward = o; within = w }
 first-line s rest at e shapes = (linesOf rest, e)
 
-pub line-is : (s : List ℕ) (at : ℕ) → at < length s → IsLine s at (lineAt s at)
+pub told : {s : List ℕ} {at : ℕ} {r : Line} → Fed s at → r ≡ lineAt s at → IsLine s at r
 unfolding linesOf
-line-is s at l =
-    by-feed (drop at s)
-    (λ n. subst (λ (r : Line). IsLine s at r) (sym (line-cut s at n l)) ([], left-over s at n l))
-    (λ cs rest n h. first-line s rest at (ap linesOf h ∙ fed [] cs rest n) (line-read s rest at cs h n))
-
-pub told : (s : List ℕ) (at : ℕ) (r : Line) → r ≡ lineAt s at → at < length s → IsLine s at r
-told s at r e l = subst (λ (x : Line). IsLine s at x) (sym e) (line-is s at l)
+told {s} {at} {r} f e =
+    subst (λ (x : Line). IsLine s at x) (sym e)
+    (by-feed (drop at s)
+    (λ n. absurd (no-feed-at (drop at s) n (f .feed - at) feed-there))
+    (λ cs rest n h. first-line s rest at (ap linesOf h ∙ fed [] cs rest n) (line-read s rest at cs h n)))
+  where
+    feed-there : getD (drop at s) (f .feed - at) 0 ≡ 10
+    feed-there =
+        let o : at + (f .feed - at) ≡ f .feed = omega (arith, f .ahead) in
+        getD-drop at s (f .feed - at) 0 ∙ ap (λ (i : ℕ). getD s i 0) o ∙ f .ends
 
 pub no-line : (s : List ℕ) (at : ℕ) → length s ≤ at → linesOf (drop at s) ≡ []
 unfolding linesOf

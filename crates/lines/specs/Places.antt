@@ -3,16 +3,16 @@ use mathlib.Core.Bool.{cond}
 use mathlib.Core.List.{List, [], _∷_}
 use Prim.Native.Nat.{ℕ, suc, _+_, _-_, _*_}
 use lib.Dec.{ltb, eqb}
-use lib.ListN.{length, getD, drop}
+use lib.ListN.{getD, drop}
 use Rattle.rules.specs.Plans.{isDigit}
 use Rattle.lines.specs.declared.Digits.{Digits}
 use Rattle.lines.specs.declared.Digits.the-variants.{Got, No}
 use Rattle.lines.specs.declared.Line.{Line}
 use Rattle.lines.specs.declared.Line.the-variants.{Op, Comment, Shape}
 
--- `(m999 999)` and its line feed.
-abbrev pub longestLine : ℕ
-longestLine = 11
+-- `(a0 1)` and its line feed.
+abbrev pub shortestLine : ℕ
+shortestLine = 7
 
 -- One to three digits, no leading zero but 0 itself.
 unfoldable pub smallAt : List ℕ → ℕ → Digits
@@ -48,10 +48,6 @@ unfoldable pub feedAt : List ℕ → ℕ
 feedAt [] = 0
 feedAt (b ∷ bs) = cond (eqb b 10) 0 (suc (feedAt bs))
 
--- A line: an operator, or a comment up to its line feed.
+-- A line that a line feed ends: an operator, or a comment.
 unfoldable pub lineAt : List ℕ → ℕ → Line
-lineAt s at =
-    cond (eqb (getD s at 0) 40) (operatorAt s at)
-    (cond (eqb (getD s at 0) 59)
-    (cond (ltb (at + feedAt (drop at s)) (length s)) (Comment (at + feedAt (drop at s) + 1)) Shape)
-    Shape)
+lineAt s at = cond (eqb (getD s at 0) 40) (operatorAt s at) (cond (eqb (getD s at 0) 59) (Comment (at + feedAt (drop at s) + 1)) Shape)

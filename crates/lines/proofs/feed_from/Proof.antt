@@ -1,50 +1,46 @@
-use Prim.Native.Nat.{ℕ, _+_, _-_, _≤_, _<_}
-use mathlib.Core.Path.{_≡_}
+use Prim.Native.Nat.{_+_, _-_}
+use mathlib.Core.Path.{_≡_, refl, sym, _∙_}
 use native.Mathlib.Omega.{arith}
+use borrow.Author.Tests.{not-true, not-false, eqb-true, eqb-false}
 use lib.ListN.{length, drop}
 use Rattle.lines.specs.Places.{feedAt}
-use Rattle.lines.proofs.LineLaws.{feed-end, feed-stop, feed-more}
+use Rattle.lines.specs.Lines.{Fed}
+use Rattle.lines.proofs.LineLaws.{fed-inside, fed-on, feed-stop, feed-more}
 use borrow.Author.Needs.{needs}
 use Rattle.lines.proofs.feed_from.Statement.{statement}
 use Rattle.lines.proofs.feed_from.Tie as tie
 
 abbrev Inv-loop : tie.InvT-loop
-Inv-loop s at i₀ i = (at ≤ i) × (i + feedAt (drop i s) ≡ at + feedAt (drop at s))
+Inv-loop s at i₀ i = Fed s i × (i + feedAt (drop i s) ≡ at + feedAt (drop at s))
 
 abbrev μ-loop : tie.MeasureT-loop
 μ-loop s at i₀ i = length s - i
 
 loop-holds : tie.Need-loop-holds Inv-loop μ-loop
-loop-holds c = search needs
+loop-holds c = (c .before .pre, refl)
 
-shared-slice-read-if1 : tie.Need-shared-slice-read-if1 Inv-loop μ-loop
-shared-slice-read-if1 c = search needs
-
-returns : tie.Need-returns Inv-loop μ-loop
-returns c = omega (arith, feed-stop (c .before .before .before .before .args .s .now) (c .before .before .before .loop .i) (omega arith) (c .if1 .taken))
+ends-requires : tie.Need-ends-requires Inv-loop μ-loop
+ends-requires c κs = fed-inside (c .loop .inv .0)
 
 add-i : tie.Need-add-i Inv-loop μ-loop
-add-i c = search needs
+add-i c = let l = fed-inside (c .before .before .loop .inv .0) in omega (arith, l)
 
 loop-less : tie.Need-loop-less Inv-loop μ-loop
-loop-less c = search needs
+loop-less c = let l = fed-inside (c .before .before .loop .inv .0) in omega (arith, l)
 
 loop-again : tie.Need-loop-again Inv-loop μ-loop
-loop-again c = (omega arith, omega (arith, feed-more (c .before .before .before .before .args .s .now) (c .before .before .before .loop .i) (omega arith) (c .if1 .left)))
+loop-again c = let h = c .before .before .loop .inv in
+    let n = eqb-false _ 10 (sym (c .before .ends .ensures) ∙ not-true _ (c .if1 .taken)) in
+    let m = feed-more (c .before .before .before .before .args .s .now) (c .before .before .loop .i) (fed-inside (h .0)) n in
+    (fed-on (h .0) refl n _ refl, omega (arith, h .1, m))
 
-returns-2 : tie.Need-returns-2 Inv-loop μ-loop
-returns-2 c = omega (arith, feed-end (c .before .before .args .s .now) (c .before .loop .i) (c .loop-test .left))
+returns : tie.Need-returns Inv-loop μ-loop
+returns c = let h = c .before .before .loop .inv in
+    let l = fed-inside (h .0) in
+    let m = feed-stop (c .before .before .before .before .args .s .now) (c .before .before .loop .i) l (eqb-true _ 10 (sym (c .before .ends .ensures) ∙ not-false _ (c .if1 .left))) in
+    (omega (arith, h .1, m), l)
 
 pub feed-from-spec : {M : Type 1} → statement M
 feed-from-spec =
     tie.close
-    (tie.spec
-    Inv-loop
-    μ-loop
-    loop-holds
-    shared-slice-read-if1
-    returns
-    add-i
-    loop-less
-    loop-again
-    returns-2)
+    (tie.spec Inv-loop μ-loop loop-holds ends-requires add-i loop-less loop-again returns)
