@@ -18,6 +18,9 @@ abbrev pub kindStep : ℕ → ℕ → Step
 kindStep zero k = act k
 kindStep (suc n) k = mth k
 
+abbrev pub kindOperator : ℕ → ℕ → ℕ → Operator
+kindOperator kind k pos = record { what = kindStep kind k; at = pos }
+
 -- The sections of a variable and of an operator.
 abbrev pub variableText : ℕ → Table → ℕ → List ℕ
 variableText b t v = spellVariable (variableOf b t v)

@@ -18,7 +18,7 @@ use Rattle.lines.specs.declared.Digits.the-variants.{Got, No}
 use Rattle.lines.specs.declared.Line.{Line}
 use Rattle.lines.specs.declared.Line.the-variants.{Op, Comment, Shape}
 use Rattle.lines.specs.Places.{shortestLine, smallAt, closed, positioned, kindOf, operatorAt, feedAt, lineAt}
-use Rattle.laws.specs.Steps.{kindStep}
+use Rattle.laws.specs.Steps.{kindStep, kindOperator}
 use Rattle.lines.specs.Lines.{Fed, Whole, IsLine}
 use Rattle.lines.proofs.LineLaws.{digit-range, small-none, small-one, small-zero, small-two, small-three, line-kind, after-kind, at-operator, at-other, at-comment}
 
@@ -131,7 +131,7 @@ module _ (s rest : List ℕ) (p : ℕ) where
 -- What the code says of a line, and what the document does.
 data Agrees (s rest : List ℕ) (at : ℕ) : Line → plans.Line → Type 0 where
   operators : (kind number pos next : ℕ) → drop next s ≡ rest → at + shortestLine ≤ next → next ≤ length s → kind ≤ 1 → number < 1000 → pos < 1000
-      → Agrees s rest at (Op kind number pos next) (oper (record { what = kindStep kind number; at = pos }))
+      → Agrees s rest at (Op kind number pos next) (oper (kindOperator kind number pos))
   comments : (next : ℕ) → drop next s ≡ rest → at < next → next ≤ length s → Agrees s rest at (Comment next) note
   shapes : Agrees s rest at Shape other
 
@@ -264,7 +264,7 @@ left-over {s} w at h l =
 first-line : (s rest : List ℕ) (at : ℕ) {r : Line} {l : plans.Line} → linesOf (drop at s) ≡ l ∷ linesOf rest → Agrees s rest at r l → IsLine s at r
 first-line s rest at e (operators kind number pos next b o w k ln lp) =
     record {
-      lines = e ∙ ap (λ (ds : List ℕ). oper (record { what = kindStep kind number; at = pos }) ∷ linesOf ds) (sym b);
+      lines = e ∙ ap (λ (ds : List ℕ). oper (kindOperator kind number pos) ∷ linesOf ds) (sym b);
       onward = o;
       within = w;
       known = k;

@@ -6,7 +6,7 @@ use mathlib.Core.Logic.{_≢_}
 use lib.ListN.{length, getD, drop}
 use Rattle.rules.specs.Plans as plans
 use Rattle.rules.specs.Plans.{note, oper, other, linesOf}
-use Rattle.laws.specs.Steps.{kindStep}
+use Rattle.laws.specs.Steps.{kindOperator}
 use Rattle.lines.specs.Places.{shortestLine}
 use Rattle.lines.specs.declared.Line.{Line}
 use Rattle.lines.specs.declared.Line.the-variants.{Op, Comment, Shape}
@@ -26,7 +26,7 @@ pub record Whole (s : List ℕ) (end : ℕ) : Type 0 where
 
 -- The line at a place, and the lines after it from the next place on.
 pub record OperatorLine (s : List ℕ) (at kind number pos next : ℕ) : Type 0 where
-  pub lines : linesOf (drop at s) ≡ oper (record { what = kindStep kind number; at = pos }) ∷ linesOf (drop next s)
+  pub lines : linesOf (drop at s) ≡ oper (kindOperator kind number pos) ∷ linesOf (drop next s)
   pub onward : at + shortestLine ≤ next
   pub within : next ≤ length s
   pub known : kind ≤ 1

@@ -9,16 +9,18 @@ use borrow.Author.Tests.{eq-eqb, ne-eqb}
 use lib.Dec.{eqb}
 use lib.ListN.{length, drop}
 use Rattle.basics.specs.Answers.{refusal, check}
-use Rattle.rules.specs.Reasons.{lineShape, notEmitted, notApplicable, stackNotEmpty, goalMissing}
+use Rattle.rules.specs.Reasons.{lineShape, notEmitted, notApplicable}
 use Rattle.rules.specs.Tables.{Table, goalFacts}
 use Rattle.rules.specs.Facts.{holds}
 use Rattle.rules.specs.Progression.{isEmpty, afterAll, totalCost}
 use Rattle.rules.specs.Operators.{Operator, expand, emitted, applies}
 use Rattle.rules.specs.Plans.{Line, note, oper, other, linesOf}
 use Rattle.rules.specs.Checks.{accepted, finish, checkFrom, checkLines}
-use Rattle.lines.specs.Lines.{kindStep, OperatorLine, CommentLine, IsLine}
+use Rattle.laws.specs.Steps.{kindStep, kindOperator}
+use Rattle.lines.specs.Places.{shortestLine}
+use Rattle.lines.specs.Lines.{Whole, OperatorLine, CommentLine, IsLine}
 use Rattle.lines.specs.declared.Line.the-variants.{Shape}
-use Rattle.lines.proofs.PlaceLaws.{no-line}
+use Rattle.lines.proofs.PlaceLaws.{left-over, no-line}
 use Rattle.facts.specs.Sets.{setOf}
 use Rattle.rows.specs.Sizes.{stackCells}
 use Rattle.rows.specs.Stacks.{stackOf}
@@ -49,7 +51,7 @@ module _ (b f : ℕ) (t : Table) (n : ℕ) (p : Point) where
 pub record Going (b f : ℕ) (t : Table) (text stack : List ℕ) (run : Progress) (at lines : ℕ) : Type 0 where
   pub cells : length stack ≡ stackCells
   pub ok : ProgressOk run
-  pub few : 2 * run .operators ≤ at
+  pub few : shortestLine * run .operators ≤ at
   pub passed : lines ≤ at
   pub within : at ≤ length text
   pub rest : checkFrom b f t (checkAt lines (pointOf run stack)) (linesOf (drop at text)) ≡ checkLines b f t (linesOf text)
@@ -100,7 +102,7 @@ module _ {f : ℕ} {t : Table} {b : ℕ} {text stack : List ℕ} {run : Progress
       }
 
   module _ {kind number pos next : ℕ} (h : OperatorLine text at kind number pos next) (r : Turned) (stack′ : List ℕ)
-      (d : turnedOf r stack′ ≡ documentStep b f t (record { what = kindStep kind number; at = pos }) (pointOf run stack)) where
+      (d : turnedOf r stack′ ≡ documentStep b f t (kindOperator kind number pos) (pointOf run stack)) where
     pub operator-out : (r .number ≡ 0 → ⊥) → refusal (r .number) (lines + 1) ≡ checkLines b f t (linesOf text)
     operator-out z = sym (operator-refused b f t lines (pointOf run stack) _ (h .lines) d z) ∙ g .rest
 
@@ -108,7 +110,7 @@ module _ {f : ℕ} {t : Table} {b : ℕ} {text stack : List ℕ} {run : Progress
     operator-on l k z =
         let n : r .progress .operators ≡ suc (run .operators) =
         ap (λ (m : Moved). m .point .operators) d
-        ∙ counts-one b f t (record { what = kindStep kind number; at = pos }) (pointOf run stack) (sym (ap (λ (m : Moved). m .number) d) ∙ z)
+        ∙ counts-one b f t (kindOperator kind number pos) (pointOf run stack) (sym (ap (λ (m : Moved). m .number) d) ∙ z)
         in
         record {
           cells = l;
@@ -119,20 +121,9 @@ module _ {f : ℕ} {t : Table} {b : ℕ} {text stack : List ℕ} {run : Progress
           rest = sym (operator-moves b f t lines (pointOf run stack) _ (h .lines) d z) ∙ g .rest;
         }
 
+  -- A last line without line feed.
+  pub cut-out : {end : ℕ} → Whole text end → end ≤ at → at < length text → refusal lineShape (lines + 1) ≡ checkLines b f t (linesOf text)
+  cut-out w h l = sym (shape-line b f t lines (pointOf run stack) (left-over w at h l)) ∙ g .rest
+
   pub ends : length text ≤ at → finish t (checkAt lines (pointOf run stack)) ≡ checkLines b f t (linesOf text)
   ends l = ap (checkFrom b f t (checkAt lines (pointOf run stack))) (sym (no-line text at l)) ∙ g .rest
-
--- The end of a plan, by the height of its stack.
-module _ (t : Table) (lines : ℕ) (run : Progress) where
-  pub ends-high : (run .height ≡ 0 → ⊥) → (stack : List ℕ) → finish t (checkAt lines (pointOf run stack)) ≡ refusal stackNotEmpty lines
-  unfolding stackOf
-  ends-high z stack = rw (high stack (run .height) z)
-    where
-      high : (cells : List ℕ) (h : ℕ) → (h ≡ 0 → ⊥) → isEmpty (stackOf cells h) ≡ false
-      high cells zero z = absurd (z refl)
-      high cells (suc h) z = refl
-
-  pub ends-empty : run .height ≡ 0 → (stack : List ℕ) → finish t (checkAt lines (pointOf run stack))
-      ≡ check (holds (goalFacts t) (setOf (run .facts))) goalMissing lines (accepted (run .cost) (run .operators) (run .steps))
-  unfolding stackOf
-  ends-empty z stack = rw z

@@ -1,3 +1,2 @@
 pub mod CheckLaws
-pub mod RowIndexLaws
-pub mod ExpandLaws
+pub mod NoteLaws

@@ -1,2 +1,4 @@
 pub mod RowLaws
 pub mod StepLaws
+pub mod RowIndexLaws
+pub mod EndLaws

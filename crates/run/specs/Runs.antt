@@ -3,6 +3,8 @@ use Prim.Native.Nat.{ℕ, _+_, _*_, _≤_}
 use mathlib.Core.Path.{_≡_}
 use mathlib.Core.List.{List}
 use lib.ListN.{length}
+use Rattle.rules.specs.declared.Verdict.{Verdict}
+use Rattle.rules.specs.declared.Verdict.the-variants.{Accepted, Refused}
 use Rattle.rules.specs.Limits.{mostBound}
 use Rattle.rules.specs.Facts.{changed}
 use Rattle.facts.specs.Sets.{setOf}
@@ -40,6 +42,11 @@ pub record Landed (t : Progress) (below : ℕ) (row : Row) (r : Progress) : Type
   pub operators : r .operators ≡ t .operators + 1
   pub steps : r .steps ≡ t .steps + row .steps
   pub cost : r .cost ≡ t .cost + row .cost
+
+-- An accepted plan's steps are few: at most nine for each operator.
+abbrev pub Few : Verdict → Type 0
+Few (Accepted cost operators steps) = steps ≤ mostSteps * mostOperators
+Few (Refused number place) = Unit {0}
 
 -- A run by value.
 abbrev pub progressOf : Run → Progress

@@ -1,14 +1,20 @@
-// One operator's step on a run, from its prepared row.
+// A run: how it begins, what it does with one operator, by its prepared row, and how it ends.
 ghost use mathlib.Core.Path.{_≡_};
-ghost use Prim.Native.Nat.{_<_, _≤_};
+ghost use mathlib.Core.List.{List};
+ghost use Prim.Native.Nat.{ℕ, _<_, _≤_};
 ghost use lib.ListN.{length};
-ghost use Rattle.rules.specs.Limits.{mostBound};
+ghost use Rattle.rules.specs.Limits.{mostActions, mostMethods, mostBound};
+ghost use Rattle.rules.specs.Checks.{verdictOf, finish};
+ghost use Rattle.laws.specs.Steps.{kindStep, kindOperator};
+ghost use Rattle.words.specs.Words.{tableOf, Held};
 ghost use Rattle.rows.specs.Sizes.{stackCells};
 ghost use Rattle.rows.specs.Rows.{rowAt, RowOk};
-ghost use Rattle.run.specs.Steps.{stepRow};
-ghost use Rattle.run.specs.Runs.{mostOperators, ProgressOk, Landed, pointOf, turnedOf, progressOf, runPoint, steppedOf};
+ghost use Rattle.run.specs.Steps.{startPoint, checkAt, stepRow, documentStep};
+ghost use Rattle.run.specs.Runs.{mostOperators, ProgressOk, Landed, pointOf, turnedOf, Few, progressOf, runPoint, steppedOf};
+ghost use Rattle.run.specs.Ready.{Ready, rowIndex, RowOf};
 use facts::Set;
 use rows::row;
+use rules::Verdict;
 use rules::reasons;
 
 // What a run counts, its stack apart.
@@ -97,6 +103,94 @@ pub fn turn(
         number: 0,
         progress,
     }
+}
+
+// What an operator comes to, and its row where the table has it.
+pub struct Operated {
+    pub row: usize,
+    pub turned: Turned,
+}
+
+// The row of an operator, and the number of rows where there is none.
+pub fn row_index(kind: u64, number: u64, actions: u64, methods: u64) -> u64
+    requires { ⌜ (actions ≤ mostActions) × (methods ≤ mostMethods) ⌝ }
+    ensures { λ r. ⌜ r ≡ rowIndex kind number actions methods ⌝ }
+{
+    if kind == 0 {
+        if number < actions {
+            return number;
+        }
+        return actions + methods;
+    }
+    if number < methods {
+        return actions + number;
+    }
+    actions + methods
+}
+
+// An operator on the run, from all rows of its table.
+pub fn operate(
+    words: &[u64],
+    bound: u64,
+    form: u64,
+    ops: &[u64],
+    cells: &[u16],
+    t: Progress,
+    stack: &mut [u16; row::STACK],
+    kind: u64,
+    number: u64,
+    pos: u64,
+) -> Operated
+    requires { ⌜ Ready bound form (now words) (now ops) (now cells) ⌝ }
+    requires { ⌜ (length (now stack) ≡ stackCells) × ProgressOk t ⌝ }
+    requires { ⌜ t .operators < mostOperators ⌝ }
+    ensures { λ r. ⌜ turnedOf (r .turned) (now (stack .exit)) ≡ documentStep bound form (tableOf (now (words .entry))) (kindOperator kind number pos) (pointOf t (now (stack .entry))) ⌝ }
+    ensures { λ r. ⌜ (length (now (stack .exit)) ≡ stackCells) × ProgressOk (r .turned .progress) ⌝ }
+    ensures { λ r. ⌜ (r .turned .number ≡ 0 → RowOf (tableOf (now (words .entry))) (kindStep kind number) (r .row)) ⌝ }
+{
+    let actions = words::action_count(words);
+    let methods = words::method_count(words) as u64;
+    let row = row_index(kind, number, actions, methods) as usize;
+    if (actions + methods) as usize <= row {
+        return Operated {
+            row,
+            turned: refuse(reasons::NOT_EMITTED, t),
+        };
+    }
+    let turned = turn(t, stack, ops, cells, row, pos);
+    Operated { row, turned }
+}
+
+// Before the first operator: the starting task alone on the stack.
+pub fn begin(words: &[u64], stack: &mut [u16; row::STACK]) -> Progress
+    requires { ⌜ Held (now words) × (length (now stack) ≡ stackCells) ⌝ }
+    ensures { λ r. ⌜ pointOf r (now (stack .exit)) ≡ startPoint (tableOf (now (words .entry))) ⌝ }
+    ensures { λ r. ⌜ (length (now (stack .exit)) ≡ stackCells) × ProgressOk r ⌝ }
+{
+    stack[0] = words::start_task(words) as u16;
+    Progress {
+        facts: words::start_facts(words),
+        height: 1,
+        operators: 0,
+        steps: 0,
+        cost: 0,
+    }
+}
+
+// The end of a plan of so many lines.
+pub fn conclude(words: &[u64], t: Progress, lines: u64) -> Verdict
+    requires { ⌜ Held (now words) × ProgressOk t ⌝ }
+    ensures { λ r. ⌜ Few r ⌝ }
+    ensures { λ r. ⌜ ((cells : List ℕ) → verdictOf r ≡ finish (tableOf (now (words .entry))) (checkAt lines (pointOf t cells))) ⌝ }
+{
+    if t.height != 0 {
+        return Verdict::Refused(reasons::STACK_NOT_EMPTY, lines);
+    }
+    let facts = t.facts;
+    if !facts::holds(words::goal_facts(words), facts) {
+        return Verdict::Refused(reasons::GOAL_MISSING, lines);
+    }
+    Verdict::Accepted(t.cost, t.operators, t.steps)
 }
 
 // A run by value.

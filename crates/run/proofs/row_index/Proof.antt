@@ -2,10 +2,10 @@ use mathlib.Core.Path.{_≡_, sym, _∙_}
 use native.Mathlib.Omega.{arith}
 use borrow.Author.Needs.{needs}
 use borrow.Author.Tests.{lt-ltb, le-ltb}
-use Rattle.plan.specs.Ready.{rowIndex}
-use Rattle.plan.proofs.RowIndexLaws.{method-index}
-use Rattle.plan.proofs.check.row_index.Statement.{statement}
-use Rattle.plan.proofs.check.row_index.Tie as tie
+use Rattle.run.specs.Ready.{rowIndex}
+use Rattle.run.proofs.RowIndexLaws.{method-index}
+use Rattle.run.proofs.row_index.Statement.{statement}
+use Rattle.run.proofs.row_index.Tie as tie
 
 returns : tie.Need-returns
 unfolding rowIndex

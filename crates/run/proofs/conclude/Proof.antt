@@ -7,9 +7,9 @@ use borrow.Author.Tests.{not-true, not-false}
 use Rattle.rules.specs.Facts.{holds}
 use Rattle.facts.specs.Sets.{setOf}
 use Rattle.words.specs.Words.{tableOf}
-use Rattle.plan.proofs.CheckLaws.{ends-high, ends-empty}
-use Rattle.plan.proofs.check.conclude.Statement.{statement}
-use Rattle.plan.proofs.check.conclude.Tie as tie
+use Rattle.run.proofs.EndLaws.{ends-high, ends-empty}
+use Rattle.run.proofs.conclude.Statement.{statement}
+use Rattle.run.proofs.conclude.Tie as tie
 
 returns : tie.Need-returns
 returns c =

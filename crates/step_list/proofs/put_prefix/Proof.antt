@@ -9,10 +9,10 @@ use Rattle.rules.specs.Progression.{act}
 use Rattle.rules.specs.Checks.{stepBytes}
 use Rattle.words.specs.Words.{tableOf}
 use Rattle.words.proofs.ViewLaws.{subtask-low}
-use Rattle.plan.proofs.ExpandLaws.{one-more}
+use Rattle.step_list.proofs.StepListLaws.{one-more}
 use borrow.Author.Needs.{needs}
-use Rattle.plan.proofs.expand.put_prefix.Statement.{statement}
-use Rattle.plan.proofs.expand.put_prefix.Tie as tie
+use Rattle.step_list.proofs.put_prefix.Statement.{statement}
+use Rattle.step_list.proofs.put_prefix.Tie as tie
 
 abbrev Inv-loop : tie.InvT-loop
 Inv-loop words k p out₀ at j₀ out j =

@@ -1,9 +1,9 @@
 use native.Mathlib.Omega.{arith}
 use lib.ListN.{length-set}
-use Rattle.plan.proofs.ExpandLaws.{word-stored}
+use Rattle.step_list.proofs.StepListLaws.{word-stored}
 use borrow.Author.Needs.{needs}
-use Rattle.plan.proofs.expand.put_word.Statement.{statement}
-use Rattle.plan.proofs.expand.put_word.Tie as tie
+use Rattle.step_list.proofs.put_word.Statement.{statement}
+use Rattle.step_list.proofs.put_word.Tie as tie
 
 cast-out : tie.Need-cast-out
 cast-out c = search needs

@@ -6,8 +6,8 @@ use lib.ListN.{length, length-set}
 use lib.Seq.{getD-set-same}
 use Rattle.rows.specs.Stacks.{stackOf}
 use borrow.Author.Needs.{needs}
-use Rattle.plan.proofs.check.begin.Statement.{statement}
-use Rattle.plan.proofs.check.begin.Tie as tie
+use Rattle.run.proofs.begin.Statement.{statement}
+use Rattle.run.proofs.begin.Tie as tie
 
 start-task-requires : tie.Need-start-task-requires
 start-task-requires c κs = search needs
