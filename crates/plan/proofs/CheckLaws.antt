@@ -1,5 +1,5 @@
 -- The check, a line at a time, by the run's own steps.
-use mathlib.Core.Path.{_≡_, refl, sym, ap, _∙_}
+use mathlib.Core.Path.{_≡_, refl, sym, ap, subst, _∙_}
 use mathlib.Core.Bool.{Bool, true, false, cond}
 use mathlib.Core.List.{List, _∷_}
 use Prim.Native.Nat.{ℕ, zero, suc, _+_, _*_, _<_, _≤_}
@@ -70,18 +70,21 @@ going-begins {f} {t} {b} {text} l k e =
       rest = ap (λ (p : Point). checkFrom b f t (checkAt 0 p) (linesOf text)) e;
     }
 
--- An operator that is applied counts one.
-counts-one : (b f : ℕ) (t : Table) (o : Operator) (p : Point) → documentStep b f t o p .number ≡ 0
-    → documentStep b f t o p .point .operators ≡ suc (p .operators)
+-- An operator that is applied counts one, and its steps.
+pub record Counted (f : ℕ) (t : Table) (o : Operator) (p q : Point) : Type 0 where
+  pub operators : q .operators ≡ suc (p .operators)
+  pub steps : q .steps ≡ p .steps + length (expand f t o)
+
+counted : (b f : ℕ) (t : Table) (o : Operator) (p : Point) → documentStep b f t o p .number ≡ 0 → Counted f t o p (documentStep b f t o p .point)
 unfolding documentStep
-counts-one b f t o p = go (emitted b f t o) (applies f t (stateOf p) o)
+counted b f t o p = go (emitted b f t o) (applies f t (stateOf p) o)
   where
     done : Moved
     done = reached p (afterAll t (stateOf p) (expand f t o)) (length (expand f t o)) (totalCost t (expand f t o))
 
     go : (x y : Bool) → cond x (cond y done (refused notApplicable p)) (refused notEmitted p) .number ≡ 0
-        → cond x (cond y done (refused notApplicable p)) (refused notEmitted p) .point .operators ≡ suc (p .operators)
-    go true true z = refl
+        → Counted f t o p (cond x (cond y done (refused notApplicable p)) (refused notEmitted p) .point)
+    go true true z = record { operators = refl; steps = refl }
     go true false z = absurd (omega arith)
     go false y z = absurd (omega arith)
 
@@ -106,12 +109,15 @@ module _ {f : ℕ} {t : Table} {b : ℕ} {text stack : List ℕ} {run : Progress
     pub operator-out : (r .number ≡ 0 → ⊥) → refusal (r .number) (lines + 1) ≡ checkLines b f t (linesOf text)
     operator-out z = sym (operator-refused b f t lines (pointOf run stack) _ (h .lines) d z) ∙ g .rest
 
+    pub operator-counts : r .number ≡ 0 → Counted f t (kindOperator kind number pos) (pointOf run stack) (pointOf (r .progress) stack′)
+    operator-counts z =
+        let n : documentStep b f t (kindOperator kind number pos) (pointOf run stack) .number ≡ 0 = sym (ap (λ (m : Moved). m .number) d) ∙ z in
+        subst (λ (m : Moved). Counted f t (kindOperator kind number pos) (pointOf run stack) (m .point)) (sym d)
+        (counted b f t (kindOperator kind number pos) (pointOf run stack) n)
+
     pub operator-on : length stack′ ≡ stackCells → ProgressOk (r .progress) → r .number ≡ 0 → Going b f t text stack′ (r .progress) next (lines + 1)
     operator-on l k z =
-        let n : r .progress .operators ≡ suc (run .operators) =
-        ap (λ (m : Moved). m .point .operators) d
-        ∙ counts-one b f t (kindOperator kind number pos) (pointOf run stack) (sym (ap (λ (m : Moved). m .number) d) ∙ z)
-        in
+        let n = operator-counts z .operators in
         record {
           cells = l;
           ok = k;

@@ -1,21 +1,32 @@
 -- The notes of a check, an operator at a time: what is noted and what is left give the whole plan's steps.
-use Prim.Native.Nat.{ℕ, suc, _+_, _≤_, _<_}
+use Prim.Native.Nat.{ℕ, suc, _+_, _*_, _≤_, _<_}
 use mathlib.Core.Path.{_≡_, refl, sym, ap, subst, _∙_}
+use mathlib.Core.Bool.{Bool, true, false}
 use mathlib.Core.List.{List, [], _∷_, _++_, map, map-append, append-nil, append-assoc}
 use native.Mathlib.Omega.{arith}
-use native.Mathlib.Decide.{decEq}
+use native.Mathlib.Decide.{decLt}
 use lib.ListN.{length, getD, set, take, drop, length-set, length-append}
-use lib.Seq.{getD-set-same, getD-set-other, take-suc-set, length-take-le, getD-take}
-use Rattle.rules.specs.Tables.{Table}
-use Rattle.rules.specs.Progression.{Step}
+use lib.Seq.{sets, sets-eq, getD-set-same, getD-set-other, take-suc-set, length-take-le, getD-take}
+use Rattle.basics.specs.Answers.{Answer, numberOf, valueOf, check, after}
+use Rattle.rules.specs.declared.Verdict.{Verdict}
+use Rattle.rules.specs.declared.Verdict.the-variants.{Accepted, Refused}
+use Rattle.rules.specs.Reasons.{stackNotEmpty, goalMissing}
+use Rattle.rules.specs.Tables.{Table, goalFacts}
+use Rattle.rules.specs.Facts.{holds}
+use Rattle.rules.specs.Progression.{Step, isEmpty}
 use Rattle.rules.specs.Operators.{Operator, expand, expandAll}
 use Rattle.rules.specs.Plans.{Line, note, oper, linesOf, opersOf}
+use Rattle.rules.specs.Checks.{Tally, accepted, operatorsIn, stepsIn, verdictOf, finish, checkLines, stepBytes}
+use Rattle.rules.specs.Refusals.{roomFor, stepsFor, written}
+use Rattle.laws.proofs.StepLaws.{bytes-length}
+use Rattle.laws.proofs.RefusalLaws.{room-short, room-fits}
 use Rattle.laws.specs.Steps.{stepAt, kindStep, kindOperator}
 use Rattle.lines.specs.Lines.{OperatorLine, CommentLine}
 use Rattle.lines.proofs.PlaceLaws.{no-line}
+use Rattle.run.specs.Steps.{Point, checkAt}
 use Rattle.run.specs.Ready.{RowOf}
-use Rattle.step_list.specs.RowSteps.{IsRow, rowOperator, rowsSteps}
-use Rattle.plan.specs.Notes.{mostNotes, Noted}
+use Rattle.step_list.specs.RowSteps.{IsRow, rowOperator, rowsSteps, rowsBytes}
+use Rattle.plan.specs.Notes.{mostNotes, Noted, NotesHeld, NotesExpand, noteBytes}
 
 -- So many operators, with so many steps, are noted of the lines up to a place.
 pub record Noting (f : ℕ) (t : Table) (text notes : List ℕ) (operators steps at : ℕ) : Type 0 where
@@ -24,8 +35,9 @@ pub record Noting (f : ℕ) (t : Table) (text notes : List ℕ) (operators steps
   pub count : length (rowsSteps f t (take operators notes)) ≡ steps
   pub whole : rowsSteps f t (take operators notes) ++ expandAll f t (opersOf (linesOf (drop at text))) ≡ expandAll f t (opersOf (linesOf text))
 
-pub noting-begins : {f : ℕ} {t : Table} {text notes : List ℕ} → length notes ≡ mostNotes → Noting f t text notes 0 0 0
-noting-begins l = record { space = l; rows = λ n h. absurd (omega arith); count = refl; whole = refl }
+pub noting-begins : {f : ℕ} {t : Table} {text notes : List ℕ} {operators steps : ℕ} → length notes ≡ mostNotes → operators ≡ 0 → steps ≡ 0
+    → Noting f t text notes operators steps 0
+noting-begins l e d = rw (e, d) (record { space = l; rows = λ n h. absurd (omega arith); count = refl; whole = refl })
 
 -- One row more.
 rows-append : (f : ℕ) (t : Table) (xs ys : List ℕ) → rowsSteps f t (xs ++ ys) ≡ rowsSteps f t xs ++ rowsSteps f t ys
@@ -55,9 +67,9 @@ module _ {f : ℕ} {t : Table} {text notes : List ℕ} {operators steps at : ℕ
 
     its-row : (n : ℕ) → n < suc operators → IsRow t (getD noted n 0)
     its-row n m =
-        elim (decEq n operators) [
-          | yes e ↦ rw (e, getD-set-same notes operators row 0 (omega (arith, g .space))) (o .low)
-          | no e ↦ rw (getD-set-other notes operators n row 0 e) (g .rows n (omega arith))
+        elim (decLt n operators) [
+          | yes e ↦ rw (getD-set-other notes operators n row 0 (λ q. omega arith)) (g .rows n e)
+          | no e ↦ (let q : n ≡ operators = omega arith in rw (q, getD-set-same notes operators row 0 (omega (arith, g .space))) (o .low))
         ]
 
     pub noting-operator : {operators′ steps′ : ℕ} → operators′ ≡ suc operators → steps′ ≡ steps + length those → Noting f t text noted operators′ steps′ next
@@ -73,8 +85,8 @@ module _ {f : ℕ} {t : Table} {text notes : List ℕ} {operators steps at : ℕ
         })
 
   -- At the end of the text all is noted.
-  pub noting-ends : length text ≤ at → operators ≤ mostNotes → Noted f t notes operators steps × (rowsSteps f t (take operators notes) ≡ expandAll f t (opersOf (linesOf text)))
-  noting-ends l m = (
+  all-noted : length text ≤ at → operators ≤ mostNotes → Noted f t notes operators steps × (rowsSteps f t (take operators notes) ≡ expandAll f t (opersOf (linesOf text)))
+  all-noted l m = (
     record { few = omega (arith, g .space); rows = λ n h. taken-row n h; count = g .count },
     sym (append-nil (rowsSteps f t (take operators notes))) ∙ (rw (no-line text at l) at (g .whole)),
   )
@@ -83,3 +95,49 @@ module _ {f : ℕ} {t : Table} {text notes : List ℕ} {operators steps at : ℕ
       taken-row n h =
           let low : n < operators = omega (arith, length-take-le operators notes (omega (arith, g .space))) in
           rw (getD-take operators notes n 0 low) (g .rows n low)
+
+  -- Whatever the verdict.
+  pub noting-ends : length text ≤ at → operators ≤ mostNotes → (r : Verdict) (lines : ℕ) (p : Point) → p .operators ≡ operators → p .steps ≡ steps
+      → verdictOf r ≡ finish t (checkAt lines p) → NotesHeld f t notes r × NotesExpand f t (linesOf text) notes r
+  noting-ends l m (Refused number place) lines p o k e = (tt, tt)
+  noting-ends l m (Accepted cost n s) lines p o k e = go (isEmpty (p .stack)) (holds (goalFacts t) (p .facts)) e
+    where
+      go : (x y : Bool) → accepted cost n s ≡ check x stackNotEmpty lines (check y goalMissing lines (accepted (p .cost) (p .operators) (p .steps)))
+          → Noted f t notes n s × (rowsSteps f t (take n notes) ≡ expandAll f t (opersOf (linesOf text)))
+      go true true q =
+          let a : n ≡ operators = ap (λ (z : Answer Tally). valueOf operatorsIn z) q ∙ o in
+          let b : s ≡ steps = ap (λ (z : Answer Tally). valueOf stepsIn z) q ∙ k in
+          rw (a, b) (all-noted l m)
+      go true false q = let z : _≡_ {A = ℕ} 0 goalMissing = ap numberOf q in absurd (omega arith)
+      go false y q = let z : _≡_ {A = ℕ} 0 stackNotEmpty = ap numberOf q in absurd (omega arith)
+
+-- ---- the bytes of the notes
+
+module _ {f : ℕ} {t : Table} {notes : List ℕ} {operators steps : ℕ} (h : Noted f t notes operators steps) where
+  abbrev the-bytes : List ℕ
+  the-bytes = rowsBytes f t (take operators notes)
+
+  pub notes-long : length the-bytes ≡ 2 * steps
+  notes-long = bytes-length (rowsSteps f t (take operators notes)) ∙ ap (λ (n : ℕ). 2 * n) (h .count)
+
+  pub notes-taken : operators ≡ length (take operators notes)
+  notes-taken = sym (length-take-le operators notes (h .few))
+
+  pub notes-kept : (old : List ℕ) → length old < 2 * steps → old ≡ written old 0 (roomFor (length old) 0 the-bytes)
+  unfolding written
+  notes-kept old l = sym (ap (written old 0) (room-short (length old) 0 the-bytes (omega (arith, notes-long))))
+
+  pub notes-written : (old : List ℕ) {new : List ℕ} → 2 * steps ≤ length old → new ≡ sets old 0 the-bytes → new ≡ written old 0 (roomFor (length old) 0 the-bytes)
+  unfolding written
+  notes-written old l e =
+      e ∙ sets-eq the-bytes old 0 (omega (arith, notes-long)) ∙ append-assoc (take 0 old) the-bytes (drop (0 + length the-bytes) old)
+      ∙ ap (written old 0) (sym (room-fits (length old) 0 the-bytes (omega (arith, notes-long))))
+
+-- They are those of the plan's lines.
+pub notes-given : (b f : ℕ) (t : Table) (text notes : List ℕ) (r : Verdict) → verdictOf r ≡ checkLines b f t (linesOf text) → NotesExpand f t (linesOf text) notes r
+    → (size : ℕ) → noteBytes f t notes r size ≡ stepsFor b f t text size
+notes-given b f t text notes (Accepted cost operators steps) e h size =
+    ap (λ (xs : List Step). roomFor size 0 (stepBytes xs)) h
+    ∙ ap (λ (a : Answer Tally). after a (λ _. roomFor size 0 (stepBytes (expandAll f t (opersOf (linesOf text)))))) e
+notes-given b f t text notes (Refused number place) e h size =
+    ap (λ (a : Answer Tally). after a (λ _. roomFor size 0 (stepBytes (expandAll f t (opersOf (linesOf text)))))) e

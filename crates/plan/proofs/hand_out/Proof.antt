@@ -1,45 +1,60 @@
+use mathlib.Core.Path.{_≡_, sym, ap, subst, _∙_}
+use native.Mathlib.Omega.{arith}
+use lib.ListN.{length}
+use Rattle.rules.specs.declared.Verdict.{Verdict}
+use Rattle.rules.specs.Refusals.{written}
+use Rattle.words.specs.Words.{tableOf}
+use Rattle.run.specs.Runs.{Few}
+use Rattle.plan.specs.Notes.{NotesHeld, noteBytes}
+use Rattle.plan.proofs.NoteLaws.{notes-long, notes-taken, notes-kept, notes-written}
 use borrow.Author.Needs.{needs}
 use Rattle.plan.proofs.hand_out.Statement.{statement}
 use Rattle.plan.proofs.hand_out.Tie as tie
-use Rattle.plan.proofs.hand_out.Reads as reads
-use Rattle.plan.proofs.hand_out.Lts as lts
-use Rattle.step_list.proofs.put_all.Reads as put-all-reads
 
--- src/lib.rt:36:26
 enum-known-verdict : tie.Need-enum-known-verdict
 enum-known-verdict c = search needs
 
--- src/lib.rt:37:27
 enum-known-verdict-2 : tie.Need-enum-known-verdict-2
 enum-known-verdict-2 c = search needs
 
--- src/lib.rt:38:39
 mul-if1 : tie.Need-mul-if1
-mul-if1 c = search needs
+mul-if1 c = let few = subst Few (c .before .verdict2 .given .1) (c .before .before .before .before .before .before .before .before .pre .1 .0) in omega (arith, few)
 
--- src/lib.rt:39:17
 returns : tie.Need-returns
-returns c = search needs
+returns c = let a = c .before .before .before .before .before .before .before .before .before in
+    let e = c .before .before .verdict2 .given .1 in
+    let h = subst (λ (v : Verdict). NotesHeld (a .args .form) (tableOf (a .args .words .now)) (a .args .notes .now) v) e (a .pre .1 .1) in
+    let old = a .args .steps .now in (
+      sym e,
+      notes-kept h old (c .if1 .taken) ∙ ap (λ (v : Verdict). written old 0 (noteBytes (a .args .form) (tableOf (a .args .words .now)) (a .args .notes .now) v (length old))) (sym e),
+    )
 
--- src/lib.rt:41:17
 slice-aggregate-noted : tie.Need-slice-aggregate-noted
-slice-aggregate-noted c = search needs
+slice-aggregate-noted c = let a = c .before .before .before .before .before .before .before .before .before .before in
+    let h = subst (λ (v : Verdict). NotesHeld (a .args .form) (tableOf (a .args .words .now)) (a .args .notes .now) v) (c .before .before .before .verdict2 .given .1) (a .pre .1 .1) in
+    notes-taken h
 
--- src/lib.rt:42:13
 put-all-requires : tie.Need-put-all-requires
-put-all-requires c κs = search needs
+put-all-requires c κs = let a = c .before .before .before .before .before .before .before .before .before .before .before in
+    let h = subst (λ (v : Verdict). NotesHeld (a .args .form) (tableOf (a .args .words .now)) (a .args .notes .now) v) (c .before .before .before .before .verdict2 .given .1) (a .pre .1 .1) in
+    ((a .pre .0 .0, a .pre .0 .1, h .rows), omega (arith, notes-long h, c .before .before .if1 .left))
 
--- src/lib.rt:21:1
 returns-2 : tie.Need-returns-2
-returns-2 c = search needs
+unfolding written
+returns-2 c = (sym (c .before .verdict .given .1), rw (c .before .verdict .given .1))
 
--- src/lib.rt:21:1
 same-length : tie.Need-same-length
 same-length c = search needs
 
--- src/lib.rt:21:1
 returns-3 : tie.Need-returns-3
-returns-3 c = search needs
+returns-3 c = let a = c .before .before .before .before .before .before .before .before .before .before .before .before .before .before in
+    let e = c .before .before .before .before .before .before .before .verdict2 .given .1 in
+    let h = subst (λ (v : Verdict). NotesHeld (a .args .form) (tableOf (a .args .words .now)) (a .args .notes .now) v) e (a .pre .1 .1) in
+    let old = a .args .steps .now in (
+      sym e,
+      notes-written h old (c .before .before .before .before .before .if1 .left) (c .before .before .put-all .ensures)
+          ∙ ap (λ (v : Verdict). written old 0 (noteBytes (a .args .form) (tableOf (a .args .words .now)) (a .args .notes .now) v (length old))) (sym e),
+    )
 
 pub hand-out-spec : {M : Type 1} → statement M
 hand-out-spec =
