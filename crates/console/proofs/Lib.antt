@@ -1,4 +1,3 @@
-mod JudgeLaws
-mod WriteLaws
+mod TextAnswers
 mod SectionCallLaws
 pub mod Outcomes

@@ -1,13 +1,9 @@
-// The work that the check and the expansion share, over arrays that are lent.
+// What the check and the expansion share: the plan against the opened table.
 ghost use mathlib.Core.Path.{_≡_};
-ghost use Prim.Native.Nat.{_≤_};
 ghost use lib.ListN.{length};
 ghost use Rattle.rules.specs.Checks.{verdictOf};
-ghost use Rattle.rules.specs.Refusals.{planNumber, checkPlan};
-ghost use Rattle.words.specs.Words.{tableWords};
-ghost use Rattle.rows.specs.Sizes.{allWords, allCells};
-ghost use Rattle.plan.specs.Ready.{Few};
-ghost use Rattle.console.specs.Judged.{Judged};
+ghost use Rattle.rules.specs.Refusals.{planNumber, checkPlan, expandPlan, written};
+ghost use Rattle.run.specs.Runs.{Few};
 use opening::Opening;
 use rules::Verdict;
 use rules::limits::MOST_PLAN_BYTES;
@@ -23,24 +19,14 @@ fn plan_number(plan: &[u8]) -> u64
     0
 }
 
-pub fn judge(
-    bound: u64,
-    form: u64,
-    table: &[u8],
-    plan: &[u8],
-    words: &mut [u64],
-    ops: &mut [u64],
-    cells: &mut [u16],
-) -> Verdict
-    requires { ⌜ (tableWords ≤ length (now words)) × (allWords ≤ length (now ops)) × (allCells ≤ length (now cells)) ⌝ }
-    ensures { λ r. ⌜ verdictOf r ≡ checkPlan bound form (now (table .entry)) (now (plan .entry)) ⌝ }
-    ensures { λ r. ⌜ Few r × Judged bound form (now (table .entry)) (now (plan .entry)) r (now (words .exit)) (now (ops .exit)) (now (cells .exit)) ⌝ }
+// The verdict, and the step list in the bytes where the plan is accepted and there is room for it.
+pub fn judge(bound: u64, form: u64, table: &[u8], plan: &[u8], steps: &mut [u8]) -> Verdict
+    ensures { λ r. ⌜ Few r × (verdictOf r ≡ checkPlan bound form (now (table .entry)) (now (plan .entry))) ⌝ }
+    ensures { λ _. ⌜ now (steps .exit) ≡ written (now (steps .entry)) 0 (expandPlan bound form (now (table .entry)) (now (plan .entry)) (length (now (steps .entry)))) ⌝ }
 {
-    match opening::open(bound, form, table, plan_number(plan), words) {
+    let mut words = [0u64; words::SIZE];
+    match opening::open(bound, form, table, plan_number(plan), &mut words) {
         Opening::Refused(number, place) => Verdict::Refused(number, place),
-        Opening::Opened => {
-            rows::prepare(words, bound, form, ops, cells);
-            plan::check::check(words, bound, form, ops, cells, plan)
-        }
+        Opening::Opened => plan::judge(&words, bound, form, plan, steps),
     }
 }

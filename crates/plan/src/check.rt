@@ -43,7 +43,18 @@ pub fn check(
                 at = next;
             }
             Line::Op(kind, n, pos, rest) => {
-                let m = run::operate(words, bound, form, ops, cells, run, &mut stack, kind, n, pos);
+                let m = run::operate(
+                    words,
+                    bound,
+                    form,
+                    ops,
+                    cells,
+                    run,
+                    &mut stack,
+                    kind,
+                    n,
+                    pos,
+                );
                 let turned = m.turned;
                 if turned.number != 0 {
                     return Verdict::Refused(turned.number, lines);

@@ -63,14 +63,7 @@ fn put_steps(
 }
 
 // The steps of all rows in turn, from the start of the bytes on.
-pub fn put_all(
-    words: &[u64],
-    form: u64,
-    ops: &[u64],
-    cells: &[u16],
-    rows: &[u16],
-    out: &mut [u8],
-)
+pub fn put_all(words: &[u64], form: u64, ops: &[u64], cells: &[u16], rows: &[u16], out: &mut [u8])
     requires { ⌜ Held (now words) × StepsHeld form (tableOf (now words)) (now ops) (now cells) × AllRows (tableOf (now words)) (now rows) ⌝ }
     requires { ⌜ length (rowsBytes form (tableOf (now words)) (now rows)) ≤ length (now out) ⌝ }
     ensures { λ _. ⌜ now (out .exit) ≡ sets (now (out .entry)) 0 (rowsBytes form (tableOf (now (words .entry))) (now (rows .entry))) ⌝ }

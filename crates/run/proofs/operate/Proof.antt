@@ -42,7 +42,7 @@ returns c = let a = c .before .before .before .before .before .before .before .b
     let t = tableOf (a .args .words .now) in
     let i = same-index (a .args .kind) (a .args .number) (c .before .before .before .before .action-count .ensures) (c .before .before .before .method-count .ensures) (c .before .before .row-index .ensures) in
     let unknown = step-unknown (a .args .form) t (a .args .bound) (kindStep (a .args .kind) (a .args .number)) (a .args .pos) (pointOf (a .args .t) (a .args .stack .now))
-        (row-missing t (a .args .kind) (a .args .number) (omega (arith, i, c .before .before .before .before .action-count .ensures, c .before .before .before .method-count .ensures, c .before .if1 .taken))) in
+    (row-missing t (a .args .kind) (a .args .number) (omega (arith, i, c .before .before .before .before .action-count .ensures, c .before .before .before .method-count .ensures, c .before .if1 .taken))) in
     let kept = refusing (a .args .stack .now) (c .refuse .ensures) (sym unknown) (a .pre .1 .0) in
     (kept .0, (kept .1, λ z. absurd (omega (arith, ap (λ (r : Turned). r .number) (c .refuse .ensures), z))))
 

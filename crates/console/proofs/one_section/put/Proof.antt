@@ -7,7 +7,7 @@ use Rattle.rules.specs.Sections.{sectionsOf}
 use Rattle.rules.specs.Refusals.{chosen, written}
 use Rattle.words.specs.Words.{tableOf}
 use Rattle.laws.proofs.AnswerLaws.{via}
-use Rattle.console.proofs.WriteLaws.{kept}
+use Rattle.console.proofs.TextAnswers.{kept}
 use Rattle.console.proofs.SectionCallLaws.{put-refused, put-short, put-fits, put-low, put-front, put-written}
 use Rattle.console.proofs.one_section.put.Statement.{statement}
 use Rattle.console.proofs.one_section.put.Tie as tie

@@ -7,7 +7,7 @@ use Rattle.rules.specs.Sections.{sectionsOf}
 use Rattle.rules.specs.Refusals.{chosen, roomFor, sectionFor, oneSection, written}
 use Rattle.words.specs.Words.{tableOf}
 use Rattle.opening.proofs.OpeningLaws.{goes-on}
-use Rattle.console.proofs.WriteLaws.{kept}
+use Rattle.console.proofs.TextAnswers.{kept}
 use Rattle.console.proofs.SectionCallLaws.{part-room, part-back, kept-past}
 use borrow.Author.Needs.{needs}
 use Rattle.console.proofs.one_section.write.Statement.{statement}
