@@ -1,10 +1,11 @@
 -- Prepared rows: their lines are the operators' texts, and they keep to what composing asks.
-use mathlib.Core.Path.{_≡_, sym, ap, subst, _∙_}
+use mathlib.Core.Path.{_≡_, sym, ap, subst}
 use mathlib.Core.List.{List}
-use Prim.Native.Nat.{ℕ, suc, _+_, _-_, _^_, _≤_, _<_}
+use Prim.Native.Nat.{ℕ, suc, _+_, _≤_, _<_}
 use native.Mathlib.Omega.{arith}
 use lib.ListN.{length, getD, length-drop}
 use lib.Seq.{getD-drop}
+use Rattle.rules.specs.Limits.{mostSubtasks}
 use Rattle.rules.specs.Tables.{Table, actionCount, methodCount, factCount, taskCount, method}
 use Rattle.rules.specs.Progression.{Step, prefix}
 use Rattle.rules.specs.Operators.{taskOf, leaves}
@@ -14,11 +15,8 @@ use Rattle.laws.specs.Steps.{stepAt, operatorText}
 use Rattle.laws.proofs.JoinSizes.{joined-low}
 use Rattle.laws.proofs.StepNumbers.{by-step}
 use Rattle.laws.proofs.StepSizes.{leaves-few}
-use Rattle.rows.specs.Rows.{Row, rowAt, rowOf}
-use Rattle.rows.specs.Stacks.{stackOf}
-use Rattle.rows.proofs.RowLaws.{left-is}
-use Rattle.compose.specs.RowTexts.{rowText, Fit}
-use Rattle.rows.proofs.StackLaws.{stack-at}
+use Rattle.rows.specs.Rows.{Row, rowAt, rowOf, RowsFit}
+use Rattle.compose.specs.RowTexts.{rowText, Small, Fit}
 
 pub row-text : (b f : ℕ) (t : Table) (x : Step) (ops cells : List ℕ) (p : ℕ) → rowAt ops cells 0 ≡ rowOf b f t x
     → rowText (factCount t) (taskCount t) (nameOf x) (rowAt ops cells 0) p ≡ operatorText f t (record { what = x; at = suc p })
@@ -43,26 +41,18 @@ module _ (f : ℕ) (t : Table) (v : Valid t) (i : ℕ) (l : i < actionCount t + 
       rw (getD-drop p (method t k .subs) m 0) (omega (arith, v .head .tasks, v .head .actions, v .head .abstracts, v .method k h .subs (p + m) w)))
 
 pub row-fit : (b f : ℕ) (t : Table) (i k : ℕ) (ops cells : List ℕ) → Valid t → i < actionCount t + methodCount t → k < 1000
-    → rowAt ops cells 0 ≡ rowOf b f t (stepAt t i) → 4 ≤ length ops → 12 ≤ length cells → Fit (factCount t) (taskCount t) k ops cells
-row-fit b f t i k ops cells v l h e w c =
+    → rowAt ops cells 0 ≡ rowOf b f t (stepAt t i) → RowsFit 1 ops cells → Fit (factCount t) (taskCount t) k ops cells
+row-fit b f t i k ops cells v l h e fits =
     let low = joined-low t v f i in
-    let n : ℕ = getD cells 9 0 in
-    let stay : n ≡ length (leaves f t (stepAt t i)) = left-is ops cells 0 (rowOf b f t (stepAt t i)) e in
-    let rest : stackOf cells n ≡ leaves f t (stepAt t i) = ap (λ (r : Row). r .rest) e in
+    let small : Small (factCount t) (rowOf b f t (stepAt t i)) = record { needs = low .needs; adds = low .adds; dels = low .dels; task = task-low f t v i l } in
+    let rest : leaves f t (stepAt t i) ≡ rowAt ops cells 0 .rest = λ j. sym e j .rest in
     record {
       facts = v .head .facts;
       none = omega (arith, v .head .tasks, v .head .actions);
       number = h;
-      words = w;
-      room = c;
-      needs = subst (λ (s : ℕ). s < 2 ^ factCount t) (sym (ap (λ (r : Row). r .needs) e)) (low .needs);
-      adds = subst (λ (s : ℕ). s < 2 ^ factCount t) (sym (ap (λ (r : Row). r .adds) e)) (low .adds);
-      dels = subst (λ (s : ℕ). s < 2 ^ factCount t) (sym (ap (λ (r : Row). r .dels) e)) (low .dels);
-      task = subst (λ (s : ℕ). s < 1000) (sym (ap (λ (r : Row). r .task) e)) (task-low f t v i l);
-      stay = omega (arith, stay, leaves-few f t v i l);
-      left = λ m u.
-          let low-m = left-low f t v i l (n - 1 - m) (omega (arith, stay)) in
-          let at : getD (leaves f t (stepAt t i)) (n - 1 - m) 0 ≡ getD cells m 0 =
-          ap (λ (s : List ℕ). getD s (n - 1 - m) 0) (sym rest) ∙ stack-at cells n m 0 u in
-          subst (λ (s : ℕ). s < 1000) at low-m;
+      row = subst (Small (factCount t)) (sym e) small;
+      left = record {
+        held = record { fits = fits; few = subst (λ (xs : List ℕ). length xs ≤ mostSubtasks) rest (leaves-few f t v i l) };
+        low = subst (λ (xs : List ℕ). (m : ℕ) → m < length xs → getD xs m 0 < 1000) rest (left-low f t v i l);
+      };
     }

@@ -1,38 +1,36 @@
--- The two groups of an operator's lines, cut as they are written; what the stack's lines say, by the cells of a row.
+-- The two groups of an operator's lines, cut as they are written; what the stack's lines say, by the tasks that a row leaves.
 use mathlib.Core.Path.{_≡_, refl, sym, ap, ap₂, _∙_}
 use mathlib.Core.Bool.{Bool, true, false, cond}
 use mathlib.Core.List.{List, [], _∷_, _++_, map, append-nil, append-assoc, map-append}
-use mathlib.Core.Option.{none}
 use Prim.Native.Nat.{ℕ, zero, suc, _+_, _-_, _^_, _≤_, _<_}
+use native.Mathlib.Nat.{not-suc-le-zero, le-of-suc-le-suc}
 use native.Mathlib.Decide.{ℕ-discrete}
 use native.Mathlib.Numerals.{add-one}
 use native.Mathlib.Omega.{arith}
 use lib.Bits.{or-lt}
 use lib.Count.{ones}
 use lib.Dec.{eqb}
-use lib.ListN.{length, getD, length-append, length-map}
+use lib.ListN.{length, getD, length-append, length-map, List·getD-eq-default}
 use borrow.Author.Tests.{eq-eqb, ne-eqb}
-use Rattle.basics.specs.Lists.{rows, upto, concat}
+use Rattle.basics.specs.Lists.{rows, concat}
 use Rattle.basics.specs.Texts.{bytes, digits}
 use Rattle.version3.specs.Problems.{Setting, Effect}
 use Rattle.version3.specs.Spelling.{numberLine, counted, spellSetting, spellEffect, spellOper}
 use Rattle.rules.specs.Limits.{mostSubtasks}
 use Rattle.rules.specs.Facts.{Join, membersOf}
-use Rattle.rules.specs.Problems.{set, holding, kept, altered, factEffect, change, push, topNext, bottomNext, prevails, effects, operAt}
+use Rattle.rules.specs.Problems.{set, holding, kept, altered, factEffect, change, push, bottomNext, prevails, effects, operAt}
 use Rattle.laws.proofs.JoinSizes.{without-lt}
 use Rattle.laws.proofs.ListLaws.{rows-length, map-rows}
 use Rattle.laws.proofs.MemberLaws.{members-ones}
-use Rattle.laws.proofs.TextLaws.{concat-append, concat-rows, upto-same}
+use Rattle.laws.proofs.TextLaws.{concat-append, concat-rows}
 use Rattle.template.specs.Sizes.{mostNumbers}
 use Rattle.template.specs.Templates.{Blank}
 use Rattle.drawing.specs.Pieces.{Piece}
 use Rattle.drawing.specs.Draws.{Room}
-use Rattle.stack_lines.specs.StackLines.{topStaysText, taskStaysText, topMovesText, taskMovesText, raised, pushed, Tasks}
-use Rattle.rows.specs.Rows.{rowAt, RowsFit}
-use Rattle.rows.specs.Stacks.{stackOf}
-use Rattle.rows.proofs.StackLaws.{stack-height, stack-at}
+use Rattle.stack_lines.specs.StackLines.{topStaysText, taskStaysText, topMovesText, taskMovesText, pushed, pushAll}
+use Rattle.rows.specs.Rows.{Row}
 use Rattle.compose.specs.Groups.{opening, ending, prevailGroup, effectGroup, whole}
-use Rattle.compose.specs.RowTexts.{setsOf, Fit}
+use Rattle.compose.specs.RowTexts.{setsOf, Small}
 
 -- The top stays where one task is left.
 top-same : (p stay : ℕ) → eqb (suc p + stay - 1) (suc p) ≡ eqb stay 1
@@ -111,12 +109,9 @@ unless-count false x = refl
 
 -- ---- an operator's two groups
 
-module _ (top free : ℕ) (j : Join) (task : ℕ) (cells : List ℕ) (stay p bottom : ℕ) (e : bottom ≡ bottomNext free (stackOf cells stay)) where
-  abbrev rest : List ℕ
-  rest = stackOf cells stay
-
-  top-test : eqb (topNext (suc p) rest) (suc p) ≡ eqb stay 1
-  top-test = ap (λ (n : ℕ). eqb (suc p + n - 1) (suc p)) (stack-height cells stay) ∙ top-same p stay
+module _ (top free : ℕ) (j : Join) (task : ℕ) (rest : List ℕ) (p bottom : ℕ) (e : bottom ≡ bottomNext free rest) where
+  abbrev stay : ℕ
+  stay = length rest
 
   prevails-cut : kept j < 2 ^ top
       → counted (map spellSetting (prevails top free j task (suc p) rest)) ≡ prevailGroup top (j .needs) (j .dels) stay task bottom .text p
@@ -126,77 +121,70 @@ module _ (top free : ℕ) (j : Join) (task : ℕ) (cells : List ℕ) (stay p bot
       let x : Setting = set top (suc p) in
       let y : Setting = set (top + suc p) task in
       let n : length facts ≡ ones (kept j) = length-map (membersOf top (kept j)) (λ k. set k 0) ∙ members-ones top (kept j) low in
-      (λ i. counted (map spellSetting (facts ++ cond (top-test i) (x ∷ []) [] ++ cond (eqb (sym e i) task) (y ∷ []) [])))
+      (λ i. counted (map spellSetting (facts ++ cond (top-same p stay i) (x ∷ []) [] ++ cond (eqb (sym e i) task) (y ∷ []) [])))
       ∙ counted-three spellSetting facts (cond (eqb stay 1) (x ∷ []) []) (cond (eqb bottom task) (y ∷ []) [])
       ∙ (λ i. numberLine (n i + when-count (eqb stay 1) x i + when-count (eqb bottom task) y i)
       ++ concat (map spellSetting facts) ++ when-text spellSetting (eqb stay 1) x i ++ when-text spellSetting (eqb bottom task) y i)
 
-  push-count : length (rows (push top (suc p) rest) (length rest - 1)) ≡ stay - 1
-  push-count = rows-length (push top (suc p) rest) (length rest - 1) ∙ ap (λ (n : ℕ). n - 1) (stack-height cells stay)
-
-  push-text : concat (map spellEffect (rows (push top (suc p) rest) (length rest - 1))) ≡ upto (pushed top cells p) (stay - 1)
+  push-text : concat (map spellEffect (rows (push top (suc p) rest) (stay - 1))) ≡ pushAll top rest .text p
   unfolding pushed
-  push-text =
-      let line-at : ℕ → ℕ → List ℕ = λ n k. spellEffect (raised top p k (getD rest (n - 2 - k) 0)) in
-      ap concat (map-rows spellEffect (push top (suc p) rest) (length rest - 1))
-      ∙ ap (λ (n : ℕ). concat (rows (line-at n) (n - 1))) (stack-height cells stay)
-      ∙ concat-rows (line-at stay) (stay - 1)
-      ∙ upto-same (line-at stay) (pushed top cells p) (stay - 1)
-      (λ k l.
-      let m : stay - 2 - k ≡ stay - 1 - suc k = omega arith in
-      ap (λ (v : ℕ). spellEffect (raised top p k v))
-      (ap (λ (n : ℕ). getD rest n 0) m ∙ stack-at cells stay (suc k) 0 (omega arith)))
+  push-text = ap concat (map-rows spellEffect (push top (suc p) rest) (stay - 1)) ∙ concat-rows (pushed top rest p) (stay - 1)
 
   effects-cut : altered j < 2 ^ top
       → counted (map spellEffect (effects top free j task (suc p) rest))
-      ≡ effectGroup top (j .needs) (j .adds) (j .dels) stay task bottom cells .text p
+      ≡ effectGroup top (j .needs) (j .adds) (j .dels) stay task bottom .text p ++ pushAll top rest .text p
   unfolding topMovesText taskMovesText
   effects-cut low =
       let facts : List Effect = map (factEffect (j .needs) (j .dels)) (membersOf top (altered j)) in
       let x : Effect = change top (suc p) (suc p + stay - 1) in
       let y : Effect = change (top + suc p) task bottom in
-      let pushed-lines : List Effect = rows (push top (suc p) rest) (length rest - 1) in
+      let higher : List Effect = rows (push top (suc p) rest) (stay - 1) in
       let n : length facts ≡ ones (altered j) =
       length-map (membersOf top (altered j)) (factEffect (j .needs) (j .dels)) ∙ members-ones top (altered j) low in
-      (λ i. counted (map spellEffect (facts ++ cond (top-test i) [] (change top (suc p) (suc p + stack-height cells stay i - 1) ∷ [])
-      ++ cond (eqb (sym e i) task) [] (change (top + suc p) task (sym e i) ∷ []) ++ pushed-lines)))
-      ∙ counted-four spellEffect facts (cond (eqb stay 1) [] (x ∷ [])) (cond (eqb bottom task) [] (y ∷ [])) pushed-lines
-      ∙ (λ i. numberLine (n i + unless-count (eqb stay 1) x i + unless-count (eqb bottom task) y i + push-count i)
+      (λ i. counted (map spellEffect (facts ++ cond (top-same p stay i) [] (x ∷ []) ++ cond (eqb (sym e i) task) [] (change (top + suc p) task (sym e i) ∷ []) ++ higher)))
+      ∙ counted-four spellEffect facts (cond (eqb stay 1) [] (x ∷ [])) (cond (eqb bottom task) [] (y ∷ [])) higher
+      ∙ (λ i. numberLine (n i + unless-count (eqb stay 1) x i + unless-count (eqb bottom task) y i + rows-length (push top (suc p) rest) (stay - 1) i)
       ++ concat (map spellEffect facts) ++ unless-text spellEffect (eqb stay 1) x i ++ unless-text spellEffect (eqb bottom task) y i ++ push-text i)
 
   -- All of it.
   pub operator-cut : (letter k cost : ℕ) → kept j < 2 ^ top → altered j < 2 ^ top
-      → whole top letter k (j .needs) (j .adds) (j .dels) stay task bottom cells cost .text p
+      → whole top letter k (j .needs) (j .adds) (j .dels) stay task bottom rest cost .text p
       ≡ spellOper (operAt top free (letter ∷ digits k) j task (suc p) rest cost)
   unfolding spellOper operAt
   operator-cut letter k cost low high =
-      let first : List ℕ = opening letter k .text p in
-      (λ i. first ++ sym (prevails-cut low) i ++ sym (effects-cut high) i ++ ending cost .text p)
+      let first : List ℕ = opening letter k .text p ++ prevailGroup top (j .needs) (j .dels) stay task bottom .text p in
+      let second : List ℕ = effectGroup top (j .needs) (j .adds) (j .dels) stay task bottom .text p in
+      ap (λ (x : List ℕ). x ++ ending cost .text p) (append-assoc first second (pushAll top rest .text p))
+      ∙ (λ i. opening letter k .text p ++ sym (prevails-cut low) i ++ sym (effects-cut high) i ++ ending cost .text p)
       ∙ sym (append-assoc
-      (first ++ counted (map spellSetting (prevails top free j task (suc p) rest)) ++ counted (map spellEffect (effects top free j task (suc p) rest)))
+      (opening letter k .text p ++ counted (map spellSetting (prevails top free j task (suc p) rest)) ++ counted (map spellEffect (effects top free j task (suc p) rest)))
       (numberLine cost) (bytes "end_operator\n"))
 
 -- ---- what stands in the place of the task
 
-pub bottom-none : (free : ℕ) (cells : List ℕ) (stay : ℕ) → stay ≡ 0 → free ≡ bottomNext free (stackOf cells stay)
-unfolding stackOf
-bottom-none free cells stay e = ap (λ (n : ℕ). bottomNext free (stackOf cells n)) (sym e)
+pub bottom-none : (free : ℕ) (rest : List ℕ) → length rest ≡ 0 → free ≡ bottomNext free rest
+bottom-none free rest e = sym (List·getD-eq-default rest free (omega arith))
 
-pub bottom-last : (free : ℕ) (cells : List ℕ) (stay : ℕ) → 0 < stay → getD cells 0 0 ≡ bottomNext free (stackOf cells stay)
-bottom-last free cells stay l =
-    let e : stay - 1 - 0 ≡ length (stackOf cells stay) - 1 = omega (arith, stack-height cells stay) in
-    sym (stack-at cells stay 0 free l) ∙ ap (λ (n : ℕ). getD (stackOf cells stay) n free) e
+pub bottom-last : (free : ℕ) (rest : List ℕ) (task : ℕ) → 0 < length rest → task ≡ getD rest (length rest - 1 - 0) 0 → task ≡ bottomNext free rest
+bottom-last free rest task l e =
+    let n : length rest - 1 - 0 ≡ length rest - 1 = omega arith in
+    e ∙ ap (λ (k : ℕ). getD rest k 0) n ∙ any rest (length rest - 1) (omega arith)
+  where
+    any : (xs : List ℕ) (n : ℕ) → n < length xs → getD xs n 0 ≡ getD xs n free
+    any [] n h = absurd (not-suc-le-zero h)
+    any (x ∷ xs) zero h = refl
+    any (x ∷ xs) (suc n) h = any xs n (le-of-suc-le-suc h)
 
 -- ---- the room for all of it, which goes by what happens to the stack alone
 
-module _ (stay task bottom : ℕ) (l : stay ≤ mostSubtasks) where
+module _ (stay task bottom : ℕ) (rest : List ℕ) (l : length rest ≤ mostSubtasks) where
   abbrev all : Piece
-  all = whole 0 0 0 0 0 0 stay task bottom [] 0
+  all = whole 0 0 0 0 0 0 stay task bottom rest 0
 
   pub few-numbers : all .numbers < mostNumbers
   few-numbers = go (eqb stay 1) (eqb bottom task)
     where
-      go : (a b : Bool) → 1 + (0 + cond a 1 0 + cond b 1 0) + (0 + cond a 0 2 + cond b 0 1 + (stay - 1)) + 0 < mostNumbers
+      go : (a b : Bool) → 1 + (0 + cond a 1 0 + cond b 1 0) + (0 + cond a 0 2 + cond b 0 1) + (length rest - 1) + 0 < mostNumbers
       go true true = omega arith
       go true false = omega arith
       go false true = omega arith
@@ -212,15 +200,9 @@ module _ (stay task bottom : ℕ) (l : stay ≤ mostSubtasks) where
 
 -- ---- the sets of a row
 
-module _ {top free k : ℕ} {ops cells : List ℕ} (f : Fit top free k ops cells) where
-  pub kept-low : kept (setsOf (rowAt ops cells 0)) < 2 ^ top
-  kept-low = without-lt top _ _ (f .needs) (f .dels)
+module _ {top : ℕ} {r : Row} (s : Small top r) where
+  pub kept-low : kept (setsOf r) < 2 ^ top
+  kept-low = without-lt top _ _ (s .needs) (s .dels)
 
-  pub altered-low : altered (setsOf (rowAt ops cells 0)) < 2 ^ top
-  altered-low = or-lt top _ _ (f .dels) (without-lt top _ _ (f .adds) (f .needs))
-
-  pub row-fits : RowsFit 1 ops cells
-  row-fits = record { in-words = f .words; in-cells = f .room }
-
-  pub tasks-fit : Tasks (getD cells 9 0) cells
-  tasks-fit = record { few = f .stay; room = omega (arith, f .room); low = f .left }
+  pub altered-low : altered (setsOf r) < 2 ^ top
+  altered-low = or-lt top _ _ (s .dels) (without-lt top _ _ (s .adds) (s .needs))

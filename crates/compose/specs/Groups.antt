@@ -9,6 +9,8 @@ use Rattle.basics.specs.Texts.{bytes, digits}
 use Rattle.version3.specs.Spelling.{wordLine, numberLine}
 use Rattle.rules.specs.Facts.{without}
 use Rattle.rules.specs.Limits.{mostFacts}
+use Rattle.facts.specs.declared.Set.{Set}
+use Rattle.facts.specs.Sets.{setOf}
 use Rattle.listing.specs.Listings.{holdText, changeText, holdBytes, changeBytes}
 use Rattle.drawing.specs.Pieces.{Piece, _then_, fixed}
 use Rattle.stack_lines.specs.StackLines.{topStays, taskStays, topMoves, taskMoves, pushAll}
@@ -38,17 +40,24 @@ prevailGroup top needs dels stay task bottom =
     then topStays top stay
     then taskStays top task bottom
 
-abbrev pub effectGroup : ℕ → ℕ → ℕ → ℕ → ℕ → ℕ → ℕ → List ℕ → Piece
-effectGroup top needs adds dels stay task bottom cells =
+abbrev pub effectGroup : ℕ → ℕ → ℕ → ℕ → ℕ → ℕ → ℕ → Piece
+effectGroup top needs adds dels stay task bottom =
     factLines (effectCount (ones (bitOr dels (without adds needs))) stay task bottom) (changeText needs dels top (bitOr dels (without adds needs))) (changeBytes * mostFacts)
     then topMoves top stay
     then taskMoves top task bottom
-    then pushAll top cells stay
 
--- All of it.
+-- The same of the sets as the code has them.
+abbrev pub prevailLines : ℕ → Set → Set → ℕ → ℕ → ℕ → Piece
+prevailLines top needs dels stay task bottom = prevailGroup top (setOf needs) (setOf dels) stay task bottom
+
+abbrev pub effectLines : ℕ → Set → Set → Set → ℕ → ℕ → ℕ → Piece
+effectLines top needs adds dels stay task bottom = effectGroup top (setOf needs) (setOf adds) (setOf dels) stay task bottom
+
+-- All of it, where `rest` is left.
 abbrev pub whole : ℕ → ℕ → ℕ → ℕ → ℕ → ℕ → ℕ → ℕ → ℕ → List ℕ → ℕ → Piece
-whole top letter k needs adds dels stay task bottom cells cost =
+whole top letter k needs adds dels stay task bottom rest cost =
     opening letter k
     then prevailGroup top needs dels stay task bottom
-    then effectGroup top needs adds dels stay task bottom cells
+    then effectGroup top needs adds dels stay task bottom
+    then pushAll top rest
     then ending cost

@@ -2,13 +2,13 @@
 use Prim.Native.Nat.{ℕ, suc, _^_, _≤_, _<_}
 use mathlib.Core.Bool.{false}
 use mathlib.Core.List.{List}
-use lib.ListN.{length, getD}
 use Rattle.version3.specs.Problems.{Oper}
 use Rattle.version3.specs.Spelling.{spellOper}
-use Rattle.rules.specs.Limits.{mostFacts, mostSubtasks}
+use Rattle.rules.specs.Limits.{mostFacts}
 use Rattle.rules.specs.Facts.{Join}
 use Rattle.rules.specs.Problems.{operAt}
-use Rattle.rows.specs.Rows.{Row}
+use Rattle.rows.specs.Rows.{Row, rowAt}
+use Rattle.stack_lines.specs.StackLines.{Left}
 
 abbrev pub setsOf : Row → Join
 setsOf r = record { needs = r .needs; adds = r .adds; dels = r .dels; dead = false }
@@ -20,17 +20,17 @@ rowOper top free name r i = operAt top free name (setsOf r) (r .task) i (r .rest
 abbrev pub rowText : ℕ → ℕ → List ℕ → Row → ℕ → List ℕ
 rowText top free name r p = spellOper (rowOper top free name r (suc p))
 
--- What is asked of the row in the first four words and twelve cells, and of its number k: facts below `top`, tasks of at most
--- three digits.
+-- The facts of the row are below `top`, and its task has at most three digits.
+pub record Small (top : ℕ) (r : Row) : Type 0 where
+  pub needs : r .needs < 2 ^ top
+  pub adds : r .adds < 2 ^ top
+  pub dels : r .dels < 2 ^ top
+  pub task : r .task < 1000
+
+-- What is asked of the first row and of its number k.
 pub record Fit (top free k : ℕ) (ops cells : List ℕ) : Type 0 where
   pub facts : top ≤ mostFacts
   pub none : free < 1000
   pub number : k < 1000
-  pub words : 4 ≤ length ops
-  pub room : 12 ≤ length cells
-  pub needs : getD ops 0 0 < 2 ^ top
-  pub adds : getD ops 1 0 < 2 ^ top
-  pub dels : getD ops 2 0 < 2 ^ top
-  pub task : getD cells 8 0 < 1000
-  pub stay : getD cells 9 0 ≤ mostSubtasks
-  pub left : (h : ℕ) → h < getD cells 9 0 → getD cells h 0 < 1000
+  pub row : Small top (rowAt ops cells 0)
+  pub left : Left ops cells

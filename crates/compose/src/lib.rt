@@ -4,7 +4,7 @@ ghost use mathlib.Core.Bool.{cond};
 ghost use mathlib.Core.List.{_∷_};
 ghost use Prim.Native.Nat.{_+_, _*_, _≤_, _<_};
 ghost use lib.Count.{ones};
-ghost use lib.ListN.{length, getD};
+ghost use lib.ListN.{length};
 ghost use Rattle.basics.specs.Texts.{digits};
 ghost use Rattle.rules.specs.Limits.{mostFacts, mostSubtasks};
 ghost use Rattle.rules.specs.Problems.{bottomNext};
@@ -13,11 +13,10 @@ ghost use Rattle.listing.specs.Listings.{listText, listBytes};
 ghost use Rattle.template.specs.Sizes.{operatorBytes};
 ghost use Rattle.template.specs.Templates.{Drawn, Blank};
 ghost use Rattle.drawing.specs.Draws.{Space, Room, Draws, Writes};
-ghost use Rattle.stack_lines.specs.StackLines.{Tasks};
-ghost use Rattle.rows.specs.Stacks.{stackOf};
+ghost use Rattle.stack_lines.specs.StackLines.{Left};
 ghost use Rattle.rows.specs.Rows.{rowAt};
 ghost use Rattle.compose.specs.Groups as Groups;
-ghost use Rattle.compose.specs.Groups.{factLines, prevailCount, effectCount, prevailGroup, effectGroup};
+ghost use Rattle.compose.specs.Groups.{factLines, prevailCount, effectCount, prevailLines, effectLines};
 ghost use Rattle.compose.specs.RowTexts.{rowText, Fit};
 use facts::Set;
 use listing::Says;
@@ -124,8 +123,8 @@ fn prevails(
     task: u64,
     bottom: u64,
 ) -> Pen
-    requires { ⌜ Room (prevailGroup top (setOf needs) (setOf dels) stay task bottom) (now t) (now lens) (now offs) pen × (top ≤ mostFacts) × (task < 1000) ⌝ }
-    ensures { λ r. ⌜ Draws (prevailGroup top (setOf needs) (setOf dels) stay task bottom) (now (t .entry)) (now (lens .entry)) (now (offs .entry)) pen (now (t .exit)) (now (lens .exit)) (now (offs .exit)) r ⌝ }
+    requires { ⌜ Room (prevailLines top needs dels stay task bottom) (now t) (now lens) (now offs) pen × (top ≤ mostFacts) × (task < 1000) ⌝ }
+    ensures { λ r. ⌜ Draws (prevailLines top needs dels stay task bottom) (now (t .entry)) (now (lens .entry)) (now (offs .entry)) pen (now (t .exit)) (now (lens .exit)) (now (offs .exit)) r ⌝ }
 {
     let set = facts::kept(needs, dels);
     let n = prevail_count(set, stay, task, bottom);
@@ -147,32 +146,30 @@ fn effects(
     stay: u64,
     task: u64,
     bottom: u64,
-    cells: &[u16],
 ) -> Pen
-    requires { ⌜ Room (effectGroup top (setOf needs) (setOf adds) (setOf dels) stay task bottom (now cells)) (now t) (now lens) (now offs) pen × (top ≤ mostFacts) × (task < 1000) × (bottom < 1000) × Tasks stay (now cells) ⌝ }
-    ensures { λ r. ⌜ Draws (effectGroup top (setOf needs) (setOf adds) (setOf dels) stay task bottom (now (cells .entry))) (now (t .entry)) (now (lens .entry)) (now (offs .entry)) pen (now (t .exit)) (now (lens .exit)) (now (offs .exit)) r ⌝ }
+    requires { ⌜ Room (effectLines top needs adds dels stay task bottom) (now t) (now lens) (now offs) pen × (top ≤ mostFacts) × (task < 1000) × (bottom < 1000) × (stay ≤ mostSubtasks) ⌝ }
+    ensures { λ r. ⌜ Draws (effectLines top needs adds dels stay task bottom) (now (t .entry)) (now (lens .entry)) (now (offs .entry)) pen (now (t .exit)) (now (lens .exit)) (now (offs .exit)) r ⌝ }
 {
     let set = facts::altered(needs, adds, dels);
     let n = effect_count(set, stay, task, bottom);
     let facts = fact_lines(t, pen, n, Says::Changes(needs, dels), top, set);
     let place = stack_lines::top_moves(t, lens, offs, facts, top, stay);
-    let above = stack_lines::task_moves(t, lens, offs, place, top, task, bottom);
-    stack_lines::pushes(t, lens, offs, above, top, stay, cells)
+    stack_lines::task_moves(t, lens, offs, place, top, task, bottom)
 }
 
 // What stands in the place of the task: the last task that is left, or none.
-fn bottom_of(free: u64, cells: &[u16]) -> u64
-    requires { ⌜ (free < 1000) × (12 ≤ length (now cells)) × Tasks (getD (now cells) 9 0) (now cells) ⌝ }
-    ensures { λ r. ⌜ (r ≡ bottomNext free (stackOf (now (cells .entry)) (getD (now (cells .entry)) 9 0))) × (r < 1000) ⌝ }
+fn bottom_of(free: u64, ops: &[u64], cells: &[u16]) -> u64
+    requires { ⌜ (free < 1000) × Left (now ops) (now cells) ⌝ }
+    ensures { λ r. ⌜ (r ≡ bottomNext free (rowAt (now (ops .entry)) (now (cells .entry)) 0 .rest)) × (r < 1000) ⌝ }
 {
-    let stay = cells[9];
+    let stay = row::left(ops, cells, 0);
     if stay == 0 {
         return free;
     }
-    cells[0] as u64
+    row::left_at(ops, cells, 0, 0)
 }
 
-// The template of the row in the first words and cells, for the operators with this letter and number.
+// The template of the first row, for the operators with this letter and number.
 pub fn compose(
     top: u64,
     free: u64,
@@ -192,9 +189,9 @@ pub fn compose(
     let adds = row::adds(ops, cells, 0);
     let dels = row::dels(ops, cells, 0);
     let cost = row::cost(ops, cells, 0);
-    let task = cells[8] as u64;
-    let stay = cells[9] as u64;
-    let bottom = bottom_of(free, cells);
+    let task = row::task(ops, cells, 0);
+    let stay = row::left(ops, cells, 0) as u64;
+    let bottom = bottom_of(free, ops, cells);
     let start = Pen {
         at: 0,
         from: 0,
@@ -214,7 +211,7 @@ pub fn compose(
         stay,
         task,
         bottom,
-        cells,
     );
-    ending(t, after, cost)
+    let higher = stack_lines::pushes(t, lens, offs, after, top, ops, cells);
+    ending(t, higher, cost)
 }

@@ -1,18 +1,18 @@
 // The emitting program's work on its input: the whole problem as text, part by part, or one line that says the refusal.
 ghost use mathlib.Core.Path.{_≡_};
-ghost use mathlib.Core.List.{_++_};
 ghost use Prim.Native.Nat.{_+_, _≤_, _<_};
-ghost use lib.ListN.{length, take};
+ghost use lib.ListN.{length};
 ghost use Rattle.basics.specs.Lists.{upto};
 ghost use Rattle.rules.specs.Limits.{mostBound};
 ghost use Rattle.rules.specs.Tables.{actionCount, methodCount};
 ghost use Rattle.rules.specs.Problems.{variableCount};
-ghost use Rattle.laws.specs.Steps.{variableText, stepText, frontText};
+ghost use Rattle.laws.specs.Steps.{variableText, frontText};
 ghost use Rattle.words.specs.Words.{tableWords, tableOf, Held};
 ghost use Rattle.text.specs.Appends.{Appends};
 ghost use Rattle.template.specs.Sizes.{figureCount};
 ghost use Rattle.template.specs.Figures.{Figures};
 ghost use Rattle.emission.specs.Inputs.{InputOpens};
+ghost use Rattle.emission.specs.Parts.{IsPart};
 ghost use Rattle.emission.specs.Sizes.{variablesBytes, frontBytes, stepSpace, partBytes};
 use opening::Opening;
 use template::FIGURE_BYTES;
@@ -128,8 +128,8 @@ struct Part {
 fn fill(words: &[u64], bound: u64, form: u64, figures: &[u8], from: usize, out: &mut [u8]) -> Part
     requires { ⌜ Held (now words) × (bound ≤ mostBound) × Figures (now figures) figureCount × (stepSpace ≤ length (now out)) ⌝ }
     requires { ⌜ from < actionCount (tableOf (now words)) + methodCount (tableOf (now words)) ⌝ }
-    ensures { λ r. ⌜ upto (stepText bound form (tableOf (now (words .entry)))) (r .next) ≡ upto (stepText bound form (tableOf (now (words .entry)))) from ++ take (r .size) (now (out .exit)) ⌝ }
-    ensures { λ r. ⌜ (from < r .next) × (r .next ≤ actionCount (tableOf (now (words .entry))) + methodCount (tableOf (now (words .entry)))) × (r .size ≤ length (now (out .exit))) × (length (now (out .exit)) ≡ length (now (out .entry))) ⌝ }
+    ensures { λ r. ⌜ IsPart bound form (tableOf (now (words .entry))) from (now (out .exit)) r ⌝ }
+    ensures { λ _. ⌜ length (now (out .exit)) ≡ length (now (out .entry)) ⌝ }
 {
     let steps = step_count(words);
     let room = out.len() - STEP_SPACE;

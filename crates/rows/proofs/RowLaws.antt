@@ -20,7 +20,7 @@ use Rattle.rows.specs.Sizes.{rowWords, rowCells, allWords, allCells}
 use Rattle.rows.specs.Stacks.{stackOf}
 use Rattle.rows.specs.Rows.{Row, rowOf, rowAt, Prepared, RowOk}
 use Rattle.laws.specs.Steps.{stepAt}
-use Rattle.rows.specs.Stores.{PreparedTo, Stored, SetsStored, Ended, RestStored}
+use Rattle.rows.specs.Stores.{PreparedTo, AllPrepared, Stored, SetsStored, Ended, RestStored}
 use Rattle.laws.proofs.StepNumbers.{step-action, step-method, by-step}
 use Rattle.laws.proofs.StepSizes.{stay-length, leaves-few, company-few, cost-low, height-low}
 use Rattle.rows.proofs.StackLaws.{stack-height, stack-kept}
@@ -144,7 +144,7 @@ row-kept words cells words′ cells′ i j l p q s =
 -- ---- rows by their numbers
 
 -- How many tasks a row leaves, by its cell.
-pub left-is : (words cells : List ℕ) (i : ℕ) (x : Row) → rowAt words cells i ≡ x → getD cells (12 * i + 9) 0 ≡ length (x .rest)
+left-is : (words cells : List ℕ) (i : ℕ) (x : Row) → rowAt words cells i ≡ x → getD cells (12 * i + 9) 0 ≡ length (x .rest)
 left-is words cells i x e = sym (stack-height (drop (12 * i) cells) (getD cells (12 * i + 9) 0)) ∙ ap (λ (y : Row). length (y .rest)) e
 
 -- One row more.
@@ -160,7 +160,7 @@ prepared-more b f t i words cells words′ cells′ v l p s j m = go (decLe i j)
         row-kept words cells words′ cells′ i j (omega arith) (s .words-kept) (s .cells-kept) (omega (arith, n, leaves-few f t v j (omega arith))) ∙ q
 
 pub prepared-all : (b f : ℕ) (t : Table) (words cells : List ℕ) → Valid t → allWords ≤ length words → allCells ≤ length cells
-    → PreparedTo b f t (actionCount t + methodCount t) words cells → Prepared b f t words cells
+    → AllPrepared b f t words cells → Prepared b f t words cells
 prepared-all b f t words cells v w c p =
     record {
       fits = record { in-words = omega (arith, v .head .actions, v .head .methods); in-cells = omega (arith, v .head .actions, v .head .methods) };

@@ -25,7 +25,7 @@ stack-pop cells (suc h) p =
     ap (λ (k : ℕ). getD cells k 0 ∷ stackOf cells k) e
 
 -- The task in cell h, of a stack of n.
-pub stack-at : (cells : List ℕ) (n h d : ℕ) → h < n → getD (stackOf cells n) (n - 1 - h) d ≡ getD cells h 0
+stack-at : (cells : List ℕ) (n h d : ℕ) → h < n → getD (stackOf cells n) (n - 1 - h) d ≡ getD cells h 0
 unfolding stackOf
 stack-at cells zero h d l = absurd (omega arith)
 stack-at cells (suc n) h d l =

@@ -3,7 +3,7 @@ use Prim.Native.Nat.{ℕ, _+_, _*_, _<_}
 use mathlib.Core.Path.{_≡_}
 use mathlib.Core.List.{List}
 use lib.ListN.{length, getD, take, drop}
-use Rattle.rules.specs.Tables.{Table}
+use Rattle.rules.specs.Tables.{Table, actionCount, methodCount}
 use Rattle.rules.specs.Facts.{Join}
 use Rattle.laws.specs.Steps.{stepAt}
 use Rattle.words.specs.Words.{actionAt}
@@ -14,6 +14,13 @@ use Rattle.rows.specs.Rows.{Row, rowOf, rowAt}
 -- The first n rows are prepared.
 abbrev pub PreparedTo : ℕ → ℕ → Table → ℕ → List ℕ → List ℕ → Type 0
 PreparedTo b f t n words cells = (i : ℕ) → i < n → rowAt words cells i ≡ rowOf b f t (stepAt t i)
+
+-- Those of the actions are; and those of all operators.
+abbrev pub ActionsPrepared : ℕ → ℕ → Table → List ℕ → List ℕ → Type 0
+ActionsPrepared b f t words cells = PreparedTo b f t (actionCount t) words cells
+
+abbrev pub AllPrepared : ℕ → ℕ → Table → List ℕ → List ℕ → Type 0
+AllPrepared b f t words cells = PreparedTo b f t (actionCount t + methodCount t) words cells
 
 -- Row i is stored, and the rows before it are kept.
 pub record Stored (i : ℕ) (x : Row) (words cells words′ cells′ : List ℕ) : Type 0 where

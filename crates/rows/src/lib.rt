@@ -13,7 +13,7 @@ ghost use Rattle.facts.specs.Sets.{joinRead};
 ghost use Rattle.words.specs.Words.{tableOf, Held};
 ghost use Rattle.rows.specs.Sizes.{mostRows, rowWords, rowCells, allWords, allCells};
 ghost use Rattle.rows.specs.Rows.{rowOf, rowAt, RowsFit, Prepared};
-ghost use Rattle.rows.specs.Stores.{PreparedTo, Stored, SetsStored, Ended, RestStored};
+ghost use Rattle.rows.specs.Stores.{ActionsPrepared, AllPrepared, Stored, SetsStored, Ended, RestStored};
 use facts::Action;
 use facts::Join;
 
@@ -129,7 +129,7 @@ fn method_row(
 // The rows of the actions.
 fn action_rows(words: &[u64], bound: u64, ops: &mut [u64], cells: &mut [u16])
     requires { ⌜ Held (now words) × (bound ≤ mostBound) × RowsFit mostRows (now ops) (now cells) ⌝ }
-    ensures { λ _. ⌜ ((f : ℕ) → PreparedTo bound f (tableOf (now (words .entry))) (actionCount (tableOf (now (words .entry)))) (now (ops .exit)) (now (cells .exit))) ⌝ }
+    ensures { λ _. ⌜ ((f : ℕ) → ActionsPrepared bound f (tableOf (now (words .entry))) (now (ops .exit)) (now (cells .exit))) ⌝ }
 {
     let n = words::action_count(words) as usize;
     let mut k: usize = 0;
@@ -141,8 +141,8 @@ fn action_rows(words: &[u64], bound: u64, ops: &mut [u64], cells: &mut [u16])
 
 // The rows of the methods, after those of the actions.
 fn method_rows(words: &[u64], bound: u64, form: u64, ops: &mut [u64], cells: &mut [u16])
-    requires { ⌜ Held (now words) × (bound ≤ mostBound) × RowsFit mostRows (now ops) (now cells) × PreparedTo bound form (tableOf (now words)) (actionCount (tableOf (now words))) (now ops) (now cells) ⌝ }
-    ensures { λ _. ⌜ PreparedTo bound form (tableOf (now (words .entry))) (actionCount (tableOf (now (words .entry))) + methodCount (tableOf (now (words .entry)))) (now (ops .exit)) (now (cells .exit)) ⌝ }
+    requires { ⌜ Held (now words) × (bound ≤ mostBound) × RowsFit mostRows (now ops) (now cells) × ActionsPrepared bound form (tableOf (now words)) (now ops) (now cells) ⌝ }
+    ensures { λ _. ⌜ AllPrepared bound form (tableOf (now (words .entry))) (now (ops .exit)) (now (cells .exit)) ⌝ }
 {
     let first = words::action_count(words) as usize;
     let n = words::method_count(words);

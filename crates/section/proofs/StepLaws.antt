@@ -29,13 +29,7 @@ fit-as i k ops cells p q h x =
       facts = x .facts;
       none = x .none;
       number = h;
-      words = x .words;
-      room = x .room;
-      needs = x .needs;
-      adds = x .adds;
-      dels = x .dels;
-      task = x .task;
-      stay = x .stay;
+      row = x .row;
       left = x .left;
     })
 
@@ -45,7 +39,7 @@ drawn-as r p q u d = drawn-is d (λ n. λ j. rowText (p j) (q j) (u j) r n)
 
 module _ (b f : ℕ) (t : Table) (i : ℕ) (ops cells : List ℕ) (e : rowAt ops cells 0 ≡ rowOf b f t (stepAt t i)) where
   pub step-fit : Valid t → i < actionCount t + methodCount t → length ops ≡ rowWords → length cells ≡ rowCells → Fit (factCount t) (taskCount t) i ops cells
-  step-fit v l p q = row-fit b f t i i ops cells v l (omega (arith, v .head .actions, v .head .methods)) e (omega arith) (omega arith)
+  step-fit v l p q = row-fit b f t i i ops cells v l (omega (arith, v .head .actions, v .head .methods)) e (record { in-words = omega arith; in-cells = omega arith })
 
   -- Its highest position.
   pub step-count : rowAt ops cells 0 .last ≡ positions b f t (stepAt t i)

@@ -1,7 +1,8 @@
 -- The operators of one step, and the template that says them.
 use Prim.Native.Nat.{ℕ, suc, _+_, _*_, _≤_}
 use mathlib.Core.Path.{_≡_}
-use mathlib.Core.List.{List}
+use mathlib.Core.List.{List, _∷_}
+use Rattle.basics.specs.Texts.{digits}
 use Rattle.rules.specs.Tables.{Table, factCount}
 use Rattle.rules.specs.Operators.{positions}
 use Rattle.rules.specs.Problems.{noTask, nameOf}
@@ -10,7 +11,13 @@ use Rattle.template.specs.Sizes.{operatorBytes}
 use Rattle.template.specs.Templates.{Drawn}
 use Rattle.rows.specs.Rows.{Row}
 use Rattle.compose.specs.RowTexts.{rowText}
+use Rattle.section.specs.declared.Label.{Label}
 use Rattle.section.specs.declared.Composed.{Composed}
+
+-- They are those of step i, and the number is no higher than the step's.
+pub record Names (t : Table) (i : ℕ) (r : Label) : Type 0 where
+  pub text : r .letter ∷ digits (r .number) ≡ nameOf (stepAt t i)
+  pub low : r .number ≤ i
 
 -- The operator of step i at the position p + 1: from a row, and as the document has it.
 abbrev pub stepRow : Table → ℕ → Row → ℕ → List ℕ

@@ -17,7 +17,7 @@ ghost use Rattle.template.specs.Templates.{Drawn, Blank};
 ghost use Rattle.rows.specs.Rows.{rowAt};
 ghost use Rattle.compose.specs.RowTexts.{Fit};
 ghost use Rattle.section.specs.Chosen.{Begins};
-ghost use Rattle.section.specs.Operators.{stepRow, stepOperator, IsComposed};
+ghost use Rattle.section.specs.Operators.{Names, stepRow, stepOperator, IsComposed};
 use basics::Reply;
 use problem::Found;
 use rows::row;
@@ -26,6 +26,30 @@ use template::FIGURE_BYTES;
 use template::MOST_NUMBERS;
 use template::Pen;
 use template::TEMPLATE_BYTES;
+
+// The letter and the number of a step's name.
+struct Label {
+    letter: u8,
+    number: u64,
+}
+
+fn label_of(words: &[u64], i: usize) -> Label
+    requires { ⌜ Held (now words) ⌝ }
+    ensures { λ r. ⌜ Names (tableOf (now (words .entry))) i r ⌝ }
+{
+    let actions = words::action_count(words) as usize;
+    if i < actions {
+        return Label {
+            letter: b'a',
+            number: i as u64,
+        };
+    }
+    let k = i - actions;
+    Label {
+        letter: b'm',
+        number: k as u64,
+    }
+}
 
 // The template of the operators of step i, from its row.
 fn compose_row(
@@ -44,12 +68,18 @@ fn compose_row(
 {
     let top = words::fact_count(words);
     let free = words::task_count(words);
-    let actions = words::action_count(words) as usize;
-    if i < actions {
-        return compose::compose(top, free, b'a', i as u64, ops, cells, t, lens, offs);
-    }
-    let k = i - actions;
-    compose::compose(top, free, b'm', k as u64, ops, cells, t, lens, offs)
+    let label = label_of(words, i);
+    compose::compose(
+        top,
+        free,
+        label.letter,
+        label.number,
+        ops,
+        cells,
+        t,
+        lens,
+        offs,
+    )
 }
 
 // A step's template, and at how many positions it has an operator.

@@ -7,7 +7,7 @@ use mathlib.Core.Option.{none}
 use native.Mathlib.Numerals.{add-one}
 use native.Mathlib.Omega.{arith}
 use lib.Dec.{eqb}
-use lib.ListN.{getD}
+use lib.ListN.{length, getD}
 use borrow.Author.Tests.{eq-eqb, ne-eqb}
 use Rattle.basics.specs.Lists.{upto}
 use Rattle.basics.specs.Texts.{bytes, digits, line}
@@ -27,14 +27,14 @@ push-words top j task p =
     ap (λ (n : ℕ). spellEffect (record { variable = n; before = none; after = task })) e
 
 -- One task more.
-pub pushes-more : (top : ℕ) (cells : List ℕ) (h p : ℕ) → 1 ≤ h
-    → upto (pushed top cells p) (h - 1) ++ spellEffect (raised top p (h - 1) (getD cells h 0)) ≡ upto (pushed top cells p) (h + 1 - 1)
+pub pushes-more : (top : ℕ) (rest : List ℕ) (h p task : ℕ) → 1 ≤ h → task ≡ getD rest (length rest - 1 - h) 0
+    → upto (pushed top rest p) (h - 1) ++ spellEffect (raised top p (h - 1) task) ≡ upto (pushed top rest p) (h + 1 - 1)
 unfolding upto pushed
-pushes-more top cells h p l =
-    let m : h ≡ suc (h - 1) = omega arith in
+pushes-more top rest h p task l e =
+    let m : length rest - 1 - h ≡ length rest - 2 - (h - 1) = omega arith in
     let n : suc (h - 1) ≡ h + 1 - 1 = omega arith in
-    ap (λ (k : ℕ). upto (pushed top cells p) (h - 1) ++ spellEffect (raised top p (h - 1) (getD cells k 0))) m
-    ∙ ap (λ (k : ℕ). upto (pushed top cells p) k) n
+    ap (λ (x : ℕ). upto (pushed top rest p) (h - 1) ++ spellEffect (raised top p (h - 1) x)) (e ∙ ap (λ (k : ℕ). getD rest k 0) m)
+    ∙ ap (λ (k : ℕ). upto (pushed top rest p) k) n
 
 -- ---- lines that are there or not
 

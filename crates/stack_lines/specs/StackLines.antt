@@ -1,6 +1,6 @@
 -- The lines of the stack at the position p + 1, where `stay` tasks are left and `bottom` stands in the place of `task`; the top has the
 -- variable `top`.
-use Prim.Native.Nat.{ℕ, suc, _+_, _-_, _*_, _≤_, _<_}
+use Prim.Native.Nat.{ℕ, suc, _+_, _-_, _*_, _<_}
 use mathlib.Core.Bool.{cond}
 use mathlib.Core.List.{List, []}
 use mathlib.Core.Option.{none}
@@ -10,7 +10,8 @@ use Rattle.basics.specs.Lists.{upto}
 use Rattle.version3.specs.Problems.{Effect}
 use Rattle.version3.specs.Spelling.{spellSetting, spellEffect}
 use Rattle.rules.specs.Limits.{mostSubtasks}
-use Rattle.rules.specs.Problems.{set, change}
+use Rattle.rules.specs.Problems.{set, change, push}
+use Rattle.rows.specs.Rows.{rowAt, RowHeld}
 use Rattle.drawing.specs.Pieces.{Piece}
 
 -- Where they do not change.
@@ -46,18 +47,21 @@ raised top p j task = record { variable = top + suc p + suc j; before = none; af
 abbrev pub pushOne : ℕ → ℕ → ℕ → Piece
 pushOne top j task = record { text = λ p. spellEffect (raised top p j task); bytes = 10; numbers = 1 }
 
--- The tasks in the cells, from the second on.
+-- The first n of the places above: the tasks that are left, from the one before the last on.
 unfoldable pub pushed : ℕ → List ℕ → ℕ → ℕ → List ℕ
-pushed top cells p j = spellEffect (raised top p j (getD cells (suc j) 0))
+pushed top rest p j = spellEffect (push top (suc p) rest j)
 
 abbrev pub pushMany : ℕ → List ℕ → ℕ → ℕ → Piece
-pushMany top cells stay most = record { text = λ p. upto (pushed top cells p) (stay - 1); bytes = 10 * most; numbers = stay - 1 }
+pushMany top rest n most = record { text = λ p. upto (pushed top rest p) n; bytes = 10 * most; numbers = n }
 
-abbrev pub pushAll : ℕ → List ℕ → ℕ → Piece
-pushAll top cells stay = pushMany top cells stay (mostSubtasks - 1)
+-- All of them; and those that the first row leaves.
+abbrev pub pushAll : ℕ → List ℕ → Piece
+pushAll top rest = pushMany top rest (length rest - 1) (mostSubtasks - 1)
 
--- The first cells have the tasks that are left, of at most three digits each.
-pub record Tasks (stay : ℕ) (cells : List ℕ) : Type 0 where
-  pub few : stay ≤ mostSubtasks
-  pub room : mostSubtasks ≤ length cells
-  pub low : (h : ℕ) → h < stay → getD cells h 0 < 1000
+abbrev pub above : ℕ → List ℕ → List ℕ → Piece
+above top ops cells = pushAll top (rowAt ops cells 0 .rest)
+
+-- The first row leaves tasks of at most three digits each.
+pub record Left (ops cells : List ℕ) : Type 0 where
+  pub held : RowHeld ops cells 0
+  pub low : (m : ℕ) → m < length (rowAt ops cells 0 .rest) → getD (rowAt ops cells 0 .rest) m 0 < 1000

@@ -2,7 +2,8 @@
 ghost use Prim.Native.Nat.{_≤_, _<_};
 ghost use Rattle.rules.specs.Limits.{mostFacts, mostSubtasks};
 ghost use Rattle.drawing.specs.Draws.{Room, Draws};
-ghost use Rattle.stack_lines.specs.StackLines.{topStays, taskStays, topMoves, taskMoves, pushOne, pushAll, Tasks};
+ghost use Rattle.stack_lines.specs.StackLines.{topStays, taskStays, topMoves, taskMoves, pushOne, above, Left};
+use rows::row;
 use template::Pen;
 
 // The top, where one task is left and it stays.
@@ -105,24 +106,25 @@ fn push(
     drawing::field_line(t, variable, b" -1 ", task)
 }
 
-// The tasks that are left, but the last: the cells have them from the second on.
+// The places above: the tasks that the row leaves there, but the last.
 pub fn pushes(
     t: &mut [u8],
     lens: &mut [usize],
     offs: &mut [usize],
     pen: Pen,
     top: u64,
-    stay: u64,
+    ops: &[u64],
     cells: &[u16],
 ) -> Pen
-    requires { ⌜ Room (pushAll top (now cells) stay) (now t) (now lens) (now offs) pen × (top ≤ mostFacts) × Tasks stay (now cells) ⌝ }
-    ensures { λ r. ⌜ Draws (pushAll top (now (cells .entry)) stay) (now (t .entry)) (now (lens .entry)) (now (offs .entry)) pen (now (t .exit)) (now (lens .exit)) (now (offs .exit)) r ⌝ }
+    requires { ⌜ Room (above top (now ops) (now cells)) (now t) (now lens) (now offs) pen × (top ≤ mostFacts) × Left (now ops) (now cells) ⌝ }
+    ensures { λ r. ⌜ Draws (above top (now (ops .entry)) (now (cells .entry))) (now (t .entry)) (now (lens .entry)) (now (offs .entry)) pen (now (t .exit)) (now (lens .exit)) (now (offs .exit)) r ⌝ }
 {
+    let stay = row::left(ops, cells, 0);
     let mut next = pen;
     let mut h: usize = 1;
-    while h < stay as usize {
+    while h < stay {
+        let task = row::left_at(ops, cells, 0, h);
         let below = h - 1;
-        let task = cells[h] as u64;
         next = push(t, lens, offs, next, top, below, task);
         h += 1;
     }

@@ -1,31 +1,37 @@
-use borrow.Author.Needs.{needs}
+use Prim.Native.Nat.{_-_, _<_}
+use mathlib.Core.Path.{sym, _∙_}
 use native.Mathlib.Omega.{arith}
+use lib.ListN.{length}
+use Rattle.rows.specs.Rows.{rowAt}
 use Rattle.compose.proofs.GroupLaws.{bottom-none, bottom-last}
 use Rattle.compose.proofs.bottom_of.Statement.{statement}
 use Rattle.compose.proofs.bottom_of.Tie as tie
 
-shared-slice-read-stay : tie.Need-shared-slice-read-stay
-shared-slice-read-stay c = search needs
+left-requires : tie.Need-left-requires
+left-requires c κs = c .before .before .pre .1 .held .fits
 
 returns : tie.Need-returns
 returns c =
-    let s = c .before .before in
-    (bottom-none (s .args .free) (s .args .cells .now) _ (c .if1 .taken), s .pre .0)
+    let n = c .before in
+    let s = n .before .before .before in
+    let rest = rowAt (s .args .ops .now) (s .args .cells .now) 0 .rest in
+    (bottom-none (s .args .free) rest (sym (n .left .ensures) ∙ c .if1 .taken), s .pre .0)
 
-shared-slice-read-result : tie.Need-shared-slice-read-result
-shared-slice-read-result c = search needs
-
-cast-result : tie.Need-cast-result
-cast-result c =
-    let s = c .before .before .before in
-    omega (arith, s .pre .2 .low 0 (omega (arith, c .before .if1 .left)))
+left-at-requires : tie.Need-left-at-requires
+left-at-requires c κs =
+    let n = c .before in
+    (n .before .before .before .pre .1 .held, omega (arith, n .left .ensures, c .if1 .left))
 
 returns-2 : tie.Need-returns-2
 returns-2 c =
-    let s = c .before .before .before in
-    (bottom-last (s .args .free) (s .args .cells .now) _ (omega (arith, c .before .if1 .left)), s .pre .2 .low 0 (omega (arith, c .before .if1 .left)))
+    let n = c .before .before in
+    let s = n .before .before .before in
+    let rest = rowAt (s .args .ops .now) (s .args .cells .now) 0 .rest in
+    let some : 0 < length rest = omega (arith, n .left .ensures, c .before .if1 .left) in
+    let at = c .left-at .ensures in
+    (bottom-last (s .args .free) rest _ some at, omega (arith, at, s .pre .1 .low (length rest - 1 - 0) (omega (arith, some))))
 
 pub bottom-of-spec : {M : Type 1} → statement M
 bottom-of-spec =
     tie.close
-    (tie.spec shared-slice-read-stay returns shared-slice-read-result cast-result returns-2)
+    (tie.spec left-requires returns left-at-requires returns-2)

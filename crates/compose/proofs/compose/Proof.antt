@@ -1,4 +1,3 @@
-use Prim.Native.Nat.{zero-le}
 use mathlib.Core.Path.{_∙_}
 use mathlib.Core.List.{[]}
 use native.Mathlib.Omega.{arith}
@@ -7,54 +6,49 @@ use Rattle.rows.specs.Rows.{rowAt}
 use Rattle.compose.specs.Groups.{whole}
 use Rattle.compose.specs.RowTexts.{setsOf}
 use Rattle.drawing.proofs.DrawLaws.{_▹_, space-after, room-less, room-after}
-use Rattle.compose.proofs.GroupLaws.{operator-cut, few-numbers, room-all, kept-low, altered-low, row-fits, tasks-fit}
-use lib.ListN.{getD}
+use Rattle.compose.proofs.GroupLaws.{operator-cut, few-numbers, room-all, kept-low, altered-low}
 use Rattle.compose.proofs.compose.Statement.{statement}
 use Rattle.compose.proofs.compose.Tie as tie
 
 needs-requires : tie.Need-needs-requires
-needs-requires c κs = row-fits (c .before .before .before .before .before .pre .0)
+needs-requires c κs = c .before .before .before .before .before .pre .0 .left .held .fits
 
 adds-requires : tie.Need-adds-requires
-adds-requires c κs = row-fits (c .before .before .before .before .before .before .pre .0)
+adds-requires c κs = c .before .before .before .before .before .before .pre .0 .left .held .fits
 
 dels-requires : tie.Need-dels-requires
-dels-requires c κs = row-fits (c .before .before .before .before .before .before .before .pre .0)
+dels-requires c κs = c .before .before .before .before .before .before .before .pre .0 .left .held .fits
 
 cost-requires : tie.Need-cost-requires
-cost-requires c κs = row-fits (c .before .before .before .before .before .before .before .before .pre .0)
+cost-requires c κs = c .before .before .before .before .before .before .before .before .pre .0 .left .held .fits
 
-shared-slice-read-task : tie.Need-shared-slice-read-task
-shared-slice-read-task c = omega (arith, c .before .before .before .before .before .before .before .before .before .before .pre .0 .room)
+task-requires : tie.Need-task-requires
+task-requires c κs = c .before .before .before .before .before .before .before .before .before .pre .0 .left .held .fits
 
-cast-task : tie.Need-cast-task
-cast-task c = omega (arith, c .before .before .before .before .before .before .before .before .before .before .pre .0 .task)
-
-shared-slice-read-stay : tie.Need-shared-slice-read-stay
-shared-slice-read-stay c = omega (arith, c .before .before .before .before .before .before .before .before .before .before .before .pre .0 .room)
-
-cast-stay : tie.Need-cast-stay
-cast-stay c = omega (arith, c .before .before .before .before .before .before .before .before .before .before .before .pre .0 .stay)
+left-requires : tie.Need-left-requires
+left-requires c κs = c .before .before .before .before .before .before .before .before .before .before .pre .0 .left .held .fits
 
 bottom-of-requires : tie.Need-bottom-of-requires
 bottom-of-requires c κs =
     let f = c .before .before .before .before .before .before .before .before .before .before .before .pre .0 in
-    (f .none, f .room, tasks-fit f)
+    (f .none, f .left)
 
 opening-requires : tie.Need-opening-requires
 opening-requires c κs =
     let s = c .before .before .before .before .before .before .before .before .before .before .before .before .before .before .before in
-    (room-less (room-all 0 0 0 zero-le (s .pre .1)) (omega arith) (omega arith), s .pre .0 .number)
+    (room-less (room-all 0 0 0 [] (omega arith) (s .pre .1)) (omega arith) (omega arith), s .pre .0 .number)
 
 prevails-requires : tie.Need-prevails-requires
 prevails-requires c κs =
     let o = c .before .before .before .before .before .before .before .before .before in
     let b = o .before .before .before .before in
     let s = b .before .before .before .before .before .before .before .before .before .before .before .before in
-    let a = s .args in
     let f = s .pre .0 in
-    let room = room-all (getD (a .cells .now) 9 0) (getD (a .cells .now) 8 0) (b .bottom-of .result) (f .stay) (s .pre .1) in
-    (room-after room (o .opening .ensures) (omega arith) (omega arith), f .facts, f .task)
+    let rest = rowAt (s .args .ops .now) (s .args .cells .now) 0 .rest in
+    let stay = b .before .left in
+    let room = room-all (stay .result) (b .before .before .task .result) (b .bottom-of .result) rest (f .left .held .few) (s .pre .1) in
+    let task = b .before .before .task .ensures in
+    (room-after room (o .opening .ensures) (omega arith) (omega arith), f .facts, omega (arith, task, f .row .task))
 
 effects-requires : tie.Need-effects-requires
 effects-requires c κs =
@@ -62,46 +56,68 @@ effects-requires c κs =
     let o = p .before .before .before .before .before .before .before .before .before .before in
     let b = o .before .before .before .before in
     let s = b .before .before .before .before .before .before .before .before .before .before .before .before in
-    let a = s .args in
     let f = s .pre .0 in
-    let room = room-all (getD (a .cells .now) 9 0) (getD (a .cells .now) 8 0) (b .bottom-of .result) (f .stay) (s .pre .1) in (
+    let rest = rowAt (s .args .ops .now) (s .args .cells .now) 0 .rest in
+    let stay = b .before .left in
+    let room = room-all (stay .result) (b .before .before .task .result) (b .bottom-of .result) rest (f .left .held .few) (s .pre .1) in
+    let task = b .before .before .task .ensures in (
       room-after room (o .opening .ensures ▹ p .prevails .ensures) (omega arith) (omega arith),
       f .facts,
-      f .task,
+      omega (arith, task, f .row .task),
       b .bottom-of .ensures .1,
-      tasks-fit f,
+      omega (arith, stay .ensures, f .left .held .few),
     )
+
+pushes-requires : tie.Need-pushes-requires
+pushes-requires c κs =
+    let e = c .before .before .before .before .before .before .before .before .before in
+    let p = e .before .before .before .before .before .before .before .before .before .before in
+    let o = p .before .before .before .before .before .before .before .before .before .before in
+    let b = o .before .before .before .before in
+    let s = b .before .before .before .before .before .before .before .before .before .before .before .before in
+    let f = s .pre .0 in
+    let rest = rowAt (s .args .ops .now) (s .args .cells .now) 0 .rest in
+    let stay = b .before .left in
+    let room = room-all (stay .result) (b .before .before .task .result) (b .bottom-of .result) rest (f .left .held .few) (s .pre .1) in
+    (room-after room (o .opening .ensures ▹ p .prevails .ensures ▹ e .effects .ensures) (omega arith) (omega arith), f .facts, f .left)
 
 ending-requires : tie.Need-ending-requires
 ending-requires c κs =
-    let e = c .before .before .before .before .before .before .before in
+    let h = c .before .before .before .before .before .before .before in
+    let e = h .before .before .before .before .before .before .before .before .before .before in
     let p = e .before .before .before .before .before .before .before .before .before .before in
     let o = p .before .before .before .before .before .before .before .before .before .before in
     let s = o .before .before .before .before .before .before .before .before .before .before .before .before .before .before .before .before in
-    space-after (room-all 0 0 0 zero-le (s .pre .1) .space) (o .opening .ensures ▹ p .prevails .ensures ▹ e .effects .ensures) (omega arith)
+    space-after (room-all 0 0 0 [] (omega arith) (s .pre .1) .space) (o .opening .ensures ▹ p .prevails .ensures ▹ e .effects .ensures ▹ h .pushes .ensures) (omega arith)
 
 same-length : tie.Need-same-length
 same-length c =
-    let e = c .before .before .before .before .before .before .before .before .before .before in
+    let h = c .before .before .before .before .before .before .before .before .before .before in
+    let e = h .before .before .before .before .before .before .before .before .before .before in
     let p = e .before .before .before .before .before .before .before .before .before .before in
     let o = p .before .before .before .before .before .before .before .before .before .before in
-    (o .opening .ensures ▹ p .prevails .ensures ▹ e .effects .ensures ▹ c .before .before .ending .ensures _ _) .size
+    (o .opening .ensures ▹ p .prevails .ensures ▹ e .effects .ensures ▹ h .pushes .ensures ▹ c .before .before .ending .ensures _ _) .size
 
 same-length-2 : tie.Need-same-length-2
 same-length-2 c =
-    let e = c .before .before .before .before .before .before .before .before .before .before in
+    let h = c .before .before .before .before .before .before .before .before .before .before in
+    let e = h .before .before .before .before .before .before .before .before .before .before in
     let p = e .before .before .before .before .before .before .before .before .before .before in
-    (p .before .before .before .before .before .before .before .before .before .before .opening .ensures ▹ p .prevails .ensures ▹ e .effects .ensures) .lengths
+    let o = p .before .before .before .before .before .before .before .before .before .before in
+    (o .opening .ensures ▹ p .prevails .ensures ▹ e .effects .ensures ▹ h .pushes .ensures) .lengths
 
 same-length-3 : tie.Need-same-length-3
 same-length-3 c =
-    let e = c .before .before .before .before .before .before .before .before .before .before in
+    let h = c .before .before .before .before .before .before .before .before .before .before in
+    let e = h .before .before .before .before .before .before .before .before .before .before in
     let p = e .before .before .before .before .before .before .before .before .before .before in
-    (p .before .before .before .before .before .before .before .before .before .before .opening .ensures ▹ p .prevails .ensures ▹ e .effects .ensures) .offsets
+    let o = p .before .before .before .before .before .before .before .before .before .before in
+    (o .opening .ensures ▹ p .prevails .ensures ▹ e .effects .ensures ▹ h .pushes .ensures) .offsets
 
 returns : tie.Need-returns
 returns c =
-    let e = c .before .before .before .before .before .before .before .before .before .before in
+    let h = c .before .before .before .before .before .before .before .before .before .before in
+    let e = h .before .before .before .before .before .before .before .before .before .before in
     let p = e .before .before .before .before .before .before .before .before .before .before in
     let o = p .before .before .before .before .before .before .before .before .before .before in
     let b = o .before .before .before .before in
@@ -109,17 +125,18 @@ returns c =
     let f = s .pre .0 in
     let a = s .args in
     let row = rowAt (a .ops .now) (a .cells .now) 0 in
-    let stay = getD (a .cells .now) 9 0 in
-    let d = o .opening .ensures ▹ p .prevails .ensures ▹ e .effects .ensures ▹ c .before .before .ending .ensures _ _ in
+    let d = o .opening .ensures ▹ p .prevails .ensures ▹ e .effects .ensures ▹ h .pushes .ensures ▹ c .before .before .ending .ensures _ _ in
     let bottom = b .bottom-of in
-    let cost = b .before .before .before in
+    let stay = b .before in
+    let task = stay .before in
+    let cost = task .before in
     let dels = cost .before in
     let adds = dels .before in
     let needs = adds .before in
-    let n = few-numbers stay (row .task) (bottom .result) (f .stay) in (
+    let n = few-numbers (stay .left .result) (task .task .result) (bottom .result) (row .rest) (f .left .held .few) in (
       drawn-is (d .drawn (λ p. []) (drawn-none (a .t .now) (a .lens .now) (a .offs .now)))
-          (λ p. (λ i. whole (a .top) (a .letter) (a .k) (needs .needs .ensures i) (adds .adds .ensures i) (dels .dels .ensures i) stay (row .task) (bottom .result) (a .cells .now) (cost .cost .ensures i) .text p)
-          ∙ operator-cut (a .top) (a .free) (setsOf row) (row .task) (a .cells .now) stay p (bottom .result) (bottom .ensures .0) (a .letter) (a .k) (row .cost) (kept-low f) (altered-low f)),
+          (λ p. (λ i. whole (a .top) (a .letter) (a .k) (needs .needs .ensures i) (adds .adds .ensures i) (dels .dels .ensures i) (stay .left .ensures i) (task .task .ensures i) (bottom .result) (row .rest) (cost .cost .ensures i) .text p)
+          ∙ operator-cut (a .top) (a .free) (setsOf row) (row .task) (row .rest) p (bottom .result) (bottom .ensures .0) (a .letter) (a .k) (row .cost) (kept-low (f .row)) (altered-low (f .row))),
       (omega (arith, d .most, d .count, n), d .size),
     )
 
@@ -131,14 +148,13 @@ compose-spec =
     adds-requires
     dels-requires
     cost-requires
-    shared-slice-read-task
-    cast-task
-    shared-slice-read-stay
-    cast-stay
+    task-requires
+    left-requires
     bottom-of-requires
     opening-requires
     prevails-requires
     effects-requires
+    pushes-requires
     ending-requires
     same-length
     same-length-2

@@ -18,41 +18,29 @@ altered-requires : tie.Need-altered-requires
 altered-requires c κs = search needs
 
 effect-count-requires : tie.Need-effect-count-requires
-effect-count-requires c κs = c .before .before .before .before .before .pre .4 .few
+effect-count-requires c κs = c .before .before .before .before .pre .4
 
 fact-lines-requires : tie.Need-fact-lines-requires
 fact-lines-requires c κs =
     let n = c .before in
-    let s = n .before .before .before .before .before .before .pre in
+    let s = n .before .before .before .before .before .pre in
     (space-less (s .0 .space) (omega arith), omega (arith, n .effect-count .ensures .1), s .1)
 
 top-moves-requires : tie.Need-top-moves-requires
 top-moves-requires c κs =
     let f = c .before .before .before .before .before in
-    let s = f .before .before .before .before .before .before .before .before .pre in
-    (room-after (s .0) (f .fact-lines .ensures _ _) (omega arith) (omega arith), s .1, s .4 .few)
+    let s = f .before .before .before .before .before .before .before .pre in
+    (room-after (s .0) (f .fact-lines .ensures _ _) (omega arith) (omega arith), s .1, s .4)
 
 task-moves-requires : tie.Need-task-moves-requires
 task-moves-requires c κs =
     let h = c .before .before .before .before .before .before .before .before .before in
     let f = h .before .before .before .before .before .before in
-    let s = f .before .before .before .before .before .before .before .before .pre in
+    let s = f .before .before .before .before .before .before .before .pre in
     (room-after (s .0) (f .fact-lines .ensures _ _ ▹ h .top-moves .ensures) (omega arith) (omega arith), s .1, s .2, s .3)
 
-pushes-requires : tie.Need-pushes-requires
-pushes-requires c κs =
-    let w = c .before .before .before .before .before .before .before .before .before in
-    let h = w .before .before .before .before .before .before .before .before .before .before in
-    let f = h .before .before .before .before .before .before in
-    let s = f .before .before .before .before .before .before .before .before .pre in
-    (room-after (s .0) (f .fact-lines .ensures _ _ ▹ h .top-moves .ensures ▹ w .task-moves .ensures) (omega arith) (omega arith), s .1, s .4)
-
 same-length : tie.Need-same-length
-same-length c =
-    let p = c .before .before .before .before .before .before in
-    let w = p .before .before .before .before .before .before .before .before .before .before in
-    let h = w .before .before .before .before .before .before .before .before .before .before in
-    (h .before .before .before .before .before .before .fact-lines .ensures _ _ ▹ h .top-moves .ensures ▹ w .task-moves .ensures ▹ p .pushes .ensures) .size
+same-length c = search needs
 
 same-length-2 : tie.Need-same-length-2
 same-length-2 c = search needs
@@ -62,19 +50,18 @@ same-length-3 c = search needs
 
 returns : tie.Need-returns
 returns c =
-    let p = c .before .before .before .before .before .before in
-    let w = p .before .before .before .before .before .before .before .before .before .before in
+    let w = c .before .before .before .before .before .before in
     let h = w .before .before .before .before .before .before .before .before .before .before in
     let f = h .before .before .before .before .before .before in
     let n = f .before .before in
     let k = n .before in
-    let a = k .before .before .before .before .before .args in
+    let a = k .before .before .before .before .args in
     let set = bitOr (a .dels .bits) (without (a .adds .bits) (a .needs .bits)) in
     let facts : Draws (factLines (effectCount (ones set) (a .stay) (a .task) (a .bottom)) (changeText (a .needs .bits) (a .dels .bits) (a .top) set) (changeBytes * mostFacts)) _ _ _ _ _ _ _ _ =
     draws-is (omega arith) (omega arith)
     (λ p. facts-as (n .effect-count .ensures .0 ∙ ap (λ (s : ℕ). effectCount (ones s) (a .stay) (a .task) (a .bottom)) (k .altered .ensures)) (ap (changeText (a .needs .bits) (a .dels .bits) (a .top)) (k .altered .ensures)))
     (f .fact-lines .ensures _ _) in
-    facts ▹ h .top-moves .ensures ▹ w .task-moves .ensures ▹ p .pushes .ensures
+    facts ▹ h .top-moves .ensures ▹ w .task-moves .ensures
 
 pub effects-spec : {M : Type 1} → statement M
 effects-spec =
@@ -85,7 +72,6 @@ effects-spec =
     fact-lines-requires
     top-moves-requires
     task-moves-requires
-    pushes-requires
     same-length
     same-length-2
     same-length-3

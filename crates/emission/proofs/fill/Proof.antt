@@ -32,7 +32,9 @@ same-length : tie.Need-same-length Inv-loop μ-loop
 same-length c = search needs
 
 returns : tie.Need-returns Inv-loop μ-loop
-returns c = (c .before .before .loop .inv .5, (omega arith, omega arith, c .before .before .loop .inv .3, c .before .before .loop .inv .4))
+returns c =
+    let l = c .before .before .loop in
+    (record { text = l .inv .5; some = omega arith; steps = omega arith; size = l .inv .3 }, l .inv .4)
 
 put-operators-requires : tie.Need-put-operators-requires Inv-loop μ-loop
 put-operators-requires c κs =
@@ -63,7 +65,9 @@ same-length-2 : tie.Need-same-length-2 Inv-loop μ-loop
 same-length-2 c = search needs
 
 returns-2 : tie.Need-returns-2 Inv-loop μ-loop
-returns-2 c = (c .before .loop .inv .5, (omega arith, omega arith, c .before .loop .inv .3, c .before .loop .inv .4))
+returns-2 c =
+    let l = c .before .loop in
+    (record { text = l .inv .5; some = omega arith; steps = omega arith; size = l .inv .3 }, l .inv .4)
 
 pub fill-spec : {M : Type 1} → statement M
 fill-spec =

@@ -1,4 +1,4 @@
-use Prim.Native.Nat.{ℕ, _-_, min}
+use Prim.Native.Nat.{ℕ, _+_, _-_, _*_, min}
 use mathlib.Core.Path.{_≡_, ap, _∙_}
 use lib.ListN.{length}
 use Rattle.rules.specs.Refusals.{checkPlan}
@@ -70,7 +70,9 @@ returns c =
     let s = n .before .before .before .args .input .now in
     let start = begin .smaller in
     let held = c .before .before .before .smaller2 in
-    let size : begin .before .two-bytes .result ≡ sizeOf s = begin .before .two-bytes .ensures ∙ cc in
+    let both = begin .before in
+    let size : both .two-bytes .result ≡ sizeOf s =
+    both .two-bytes .ensures ∙ (λ i. both .before .before .byte3 .ensures i + 256 * both .before .byte4 .ensures i) in
     let there : held .result ≡ min (sizeOf s) (length s - start .result) = held .ensures ∙ ap (λ (k : ℕ). min k (length s - start .result)) size in
     let bound = n .before .byte .ensures in
     let form = n .byte2 .ensures in
