@@ -1,5 +1,5 @@
 -- Text as bytes: a quoted text, a number in decimal, a line of words.
-use Prim.Native.Nat.{ℕ, zero, suc, _+_, _/_, _%_}
+use Prim.Native.Nat.{ℕ, zero, suc, _+_, _/_, _%_, _<_}
 use Prim.Native.Char.{code}
 use Prim.Native.String as Str
 use Prim.Native.String.{String}
@@ -24,6 +24,10 @@ digitsF (suc f) n = cond (ltb n 10) [] (digitsF f (n / 10)) ++ digit n
 unfoldable pub digits : ℕ → List ℕ
 unfolding digitsF
 digits n = digitsF n n
+
+-- It has at most three digits.
+abbrev pub ThreeDigits : ℕ → Type 0
+ThreeDigits n = n < 1000
 
 -- Words with one space between them, and a line feed.
 abbrev pub line : List (List ℕ) → List ℕ

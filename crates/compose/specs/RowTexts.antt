@@ -2,6 +2,7 @@
 use Prim.Native.Nat.{ℕ, suc, _^_, _≤_, _<_}
 use mathlib.Core.Bool.{false}
 use mathlib.Core.List.{List}
+use Rattle.basics.specs.Texts.{ThreeDigits}
 use Rattle.version3.specs.Problems.{Oper}
 use Rattle.version3.specs.Spelling.{spellOper}
 use Rattle.rules.specs.Limits.{mostFacts}
@@ -25,12 +26,12 @@ pub record Small (top : ℕ) (r : Row) : Type 0 where
   pub needs : r .needs < 2 ^ top
   pub adds : r .adds < 2 ^ top
   pub dels : r .dels < 2 ^ top
-  pub task : r .task < 1000
+  pub task : ThreeDigits (r .task)
 
 -- What is asked of the first row and of its number k.
 pub record Fit (top free k : ℕ) (ops cells : List ℕ) : Type 0 where
   pub facts : top ≤ mostFacts
-  pub none : free < 1000
-  pub number : k < 1000
+  pub none : ThreeDigits free
+  pub number : ThreeDigits k
   pub row : Small top (rowAt ops cells 0)
   pub left : Left ops cells

@@ -2,10 +2,10 @@
 ghost use mathlib.Core.Path.{_≡_};
 ghost use mathlib.Core.Bool.{cond};
 ghost use mathlib.Core.List.{_∷_};
-ghost use Prim.Native.Nat.{_+_, _*_, _≤_, _<_};
+ghost use Prim.Native.Nat.{_+_, _*_, _≤_};
 ghost use lib.Count.{ones};
 ghost use lib.ListN.{length};
-ghost use Rattle.basics.specs.Texts.{digits};
+ghost use Rattle.basics.specs.Texts.{digits, ThreeDigits};
 ghost use Rattle.rules.specs.Limits.{mostFacts, mostSubtasks};
 ghost use Rattle.rules.specs.Problems.{bottomNext};
 ghost use Rattle.facts.specs.Sets.{setOf};
@@ -32,7 +32,7 @@ fn opening(
     letter: u8,
     k: u64,
 ) -> Pen
-    requires { ⌜ Room (Groups.opening letter k) (now t) (now lens) (now offs) pen × (k < 1000) ⌝ }
+    requires { ⌜ Room (Groups.opening letter k) (now t) (now lens) (now offs) pen × ThreeDigits k ⌝ }
     ensures { λ r. ⌜ Draws (Groups.opening letter k) (now (t .entry)) (now (lens .entry)) (now (offs .entry)) pen (now (t .exit)) (now (lens .exit)) (now (offs .exit)) r ⌝ }
 {
     let kind = [letter];
@@ -57,7 +57,7 @@ fn ending(t: &mut [u8], pen: Pen, cost: u64) -> Pen
 
 // How many lines a group has, and those of its facts.
 fn fact_lines(t: &mut [u8], pen: Pen, n: u64, says: Says, top: u64, set: Set) -> Pen
-    requires { ⌜ Space (factLines n (listText says top (setOf set)) (listBytes says)) (now t) pen × (n < 1000) × (top ≤ mostFacts) ⌝ }
+    requires { ⌜ Space (factLines n (listText says top (setOf set)) (listBytes says)) (now t) pen × ThreeDigits n × (top ≤ mostFacts) ⌝ }
     ensures { λ r. ⌜ Writes (factLines n (listText says top (setOf set)) (listBytes says)) (now (t .entry)) pen (now (t .exit)) r ⌝ }
 {
     let lines = drawing::field_line(t, pen, b"", n);
@@ -123,7 +123,7 @@ fn prevails(
     task: u64,
     bottom: u64,
 ) -> Pen
-    requires { ⌜ Room (prevailLines top needs dels stay task bottom) (now t) (now lens) (now offs) pen × (top ≤ mostFacts) × (task < 1000) ⌝ }
+    requires { ⌜ Room (prevailLines top needs dels stay task bottom) (now t) (now lens) (now offs) pen × (top ≤ mostFacts) × ThreeDigits task ⌝ }
     ensures { λ r. ⌜ Draws (prevailLines top needs dels stay task bottom) (now (t .entry)) (now (lens .entry)) (now (offs .entry)) pen (now (t .exit)) (now (lens .exit)) (now (offs .exit)) r ⌝ }
 {
     let set = facts::kept(needs, dels);
@@ -147,7 +147,7 @@ fn effects(
     task: u64,
     bottom: u64,
 ) -> Pen
-    requires { ⌜ Room (effectLines top needs adds dels stay task bottom) (now t) (now lens) (now offs) pen × (top ≤ mostFacts) × (task < 1000) × (bottom < 1000) × (stay ≤ mostSubtasks) ⌝ }
+    requires { ⌜ Room (effectLines top needs adds dels stay task bottom) (now t) (now lens) (now offs) pen × (top ≤ mostFacts) × ThreeDigits task × ThreeDigits bottom × (stay ≤ mostSubtasks) ⌝ }
     ensures { λ r. ⌜ Draws (effectLines top needs adds dels stay task bottom) (now (t .entry)) (now (lens .entry)) (now (offs .entry)) pen (now (t .exit)) (now (lens .exit)) (now (offs .exit)) r ⌝ }
 {
     let set = facts::altered(needs, adds, dels);
@@ -159,8 +159,8 @@ fn effects(
 
 // What stands in the place of the task: the last task that is left, or none.
 fn bottom_of(free: u64, ops: &[u64], cells: &[u16]) -> u64
-    requires { ⌜ (free < 1000) × Left (now ops) (now cells) ⌝ }
-    ensures { λ r. ⌜ (r ≡ bottomNext free (rowAt (now (ops .entry)) (now (cells .entry)) 0 .rest)) × (r < 1000) ⌝ }
+    requires { ⌜ ThreeDigits free × Left (now ops) (now cells) ⌝ }
+    ensures { λ r. ⌜ (r ≡ bottomNext free (rowAt (now (ops .entry)) (now (cells .entry)) 0 .rest)) × ThreeDigits r ⌝ }
 {
     let stay = row::left(ops, cells, 0);
     if stay == 0 {

@@ -1,5 +1,6 @@
 // A template's text as it is composed: each writer adds a piece to what is drawn.
-ghost use Prim.Native.Nat.{_≤_, _<_};
+ghost use Prim.Native.Nat.{_≤_};
+ghost use Rattle.basics.specs.Texts.{ThreeDigits};
 ghost use Rattle.template.specs.Sizes.{mostOffset};
 ghost use Rattle.drawing.specs.Pieces as Pieces;
 ghost use Rattle.drawing.specs.Draws.{Space, Room, Draws, Writes};
@@ -20,7 +21,7 @@ pub fn write(t: &mut [u8], pen: Pen, s: &[u8]) -> Pen
 
 // Text, and a number of at most three digits that does not move.
 pub fn field(t: &mut [u8], pen: Pen, s: &[u8], n: u64) -> Pen
-    requires { ⌜ Space (Pieces.field (now s) n) (now t) pen × (n < 1000) ⌝ }
+    requires { ⌜ Space (Pieces.field (now s) n) (now t) pen × ThreeDigits n ⌝ }
     ensures { λ r. ⌜ Writes (Pieces.field (now (s .entry)) n) (now (t .entry)) pen (now (t .exit)) r ⌝ }
 {
     let next = text::put_field(t, pen.at, s, n);
@@ -49,7 +50,7 @@ pub fn moving(
 
 // The same two with a line feed after them.
 pub fn field_line(t: &mut [u8], pen: Pen, s: &[u8], n: u64) -> Pen
-    requires { ⌜ Space (Pieces.fieldLine (now s) n) (now t) pen × (n < 1000) ⌝ }
+    requires { ⌜ Space (Pieces.fieldLine (now s) n) (now t) pen × ThreeDigits n ⌝ }
     ensures { λ r. ⌜ Writes (Pieces.fieldLine (now (s .entry)) n) (now (t .entry)) pen (now (t .exit)) r ⌝ }
 {
     let next = field(t, pen, s, n);

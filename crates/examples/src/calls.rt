@@ -14,6 +14,9 @@ use console::sections::ildorzhen_sections_count;
 use console::sections::ildorzhen_sections_number;
 use console::sections::ildorzhen_sections_place;
 
+// What is lent to be written: more than any section or step list of the examples.
+const ROOM: usize = 2 * rules::limits::MOST_SECTION_BYTES;
+
 // Bound, form, table: how many sections.
 pub fn sections(input: &[u8]) {
     let bound = report::byte(input, 0) as u64;
@@ -39,7 +42,7 @@ pub fn section(input: &[u8]) {
     let form = report::byte(input, 1) as u64;
     let index = report::byte(input, 2) as u64;
     let table = &input[report::smaller(3, input.len())..];
-    let mut text = [0u8; 4096];
+    let mut text = [0u8; ROOM];
     let number = ildorzhen_section_number(bound, form, table, index, &text, 7);
     if number != 0 {
         let place = ildorzhen_section_place(bound, form, table, index, &text, 7);
@@ -60,7 +63,7 @@ pub fn steps(input: &[u8], less: usize) {
     let size = report::two_bytes(report::byte(input, 2), report::byte(input, 3));
     let start = report::smaller(4, input.len());
     let end = start + report::smaller(size, input.len() - start);
-    let mut space = [0u8; 4096];
+    let mut space = [0u8; ROOM];
     expand_less(
         bound,
         form,

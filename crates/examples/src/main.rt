@@ -7,8 +7,11 @@ use libc::STDIN_FILENO;
 mod calls;
 mod lines;
 
+// Room for all records.
+const MOST_RECORDS: usize = 256 * 256;
+
 fn main() {
-    let mut all = [0u8; 65536];
+    let mut all = [0u8; MOST_RECORDS];
     let n = io::read_full(STDIN_FILENO, &mut all);
     run_all(&all[..n]);
 }

@@ -5,7 +5,7 @@ ghost use mathlib.Core.List.{_++_};
 ghost use Prim.Native.Nat.{_+_, _≤_, _<_};
 ghost use lib.ListN.{length};
 ghost use Rattle.basics.specs.Lists.{upto};
-ghost use Rattle.basics.specs.Texts.{digits};
+ghost use Rattle.basics.specs.Texts.{digits, ThreeDigits};
 ghost use Rattle.version3.specs.Spelling.{wordLine, numberLine, preamble, spellVariable, middle};
 ghost use Rattle.rules.specs.Limits.{mostFacts, mostTasks, mostBound, mostSectionBytes};
 ghost use Rattle.rules.specs.Tables.{startFacts};
@@ -21,7 +21,7 @@ use listing::Says;
 
 // Text, a number of at most three digits, a line feed.
 fn put_line(out: &mut [u8], at: usize, s: &[u8], n: u64) -> usize
-    requires { ⌜ (at + length (now s) + 4 ≤ length (now out)) × (n < 1000) ⌝ }
+    requires { ⌜ (at + length (now s) + 4 ≤ length (now out)) × ThreeDigits n ⌝ }
     ensures { λ r. ⌜ Appends (now (out .entry)) at (labelled (now (s .entry)) n) (now (out .exit)) r ⌝ }
     ensures { λ r. ⌜ r ≤ at + length (now (s .entry)) + 4 ⌝ }
 {
@@ -46,7 +46,7 @@ pub fn put_preamble(words: &[u64], bound: u64, out: &mut [u8], at: usize) -> usi
 
 // A variable's section as far as its count of values.
 fn put_opening(out: &mut [u8], at: usize, v: u64, values: u64) -> usize
-    requires { ⌜ (at + 32 ≤ length (now out)) × (v < 1000) × (values < 1000) ⌝ }
+    requires { ⌜ (at + 32 ≤ length (now out)) × ThreeDigits v × ThreeDigits values ⌝ }
     ensures { λ r. ⌜ Appends (now (out .entry)) at (opening v values) (now (out .exit)) r ⌝ }
     ensures { λ r. ⌜ r ≤ at + 32 ⌝ }
 {
@@ -81,7 +81,7 @@ fn put_fact_variable(out: &mut [u8], at: usize, v: u64) -> usize
 
 // The top of the stack, a height for each value.
 fn put_top_variable(out: &mut [u8], at: usize, v: u64, bound: u64) -> usize
-    requires { ⌜ (at + mostSectionBytes ≤ length (now out)) × (v < 1000) × (bound ≤ mostBound) ⌝ }
+    requires { ⌜ (at + mostSectionBytes ≤ length (now out)) × ThreeDigits v × (bound ≤ mostBound) ⌝ }
     ensures { λ r. ⌜ Appends (now (out .entry)) at (spellVariable (variable v (heightNames bound))) (now (out .exit)) r ⌝ }
     ensures { λ r. ⌜ r ≤ at + mostSectionBytes ⌝ }
 {
@@ -93,7 +93,7 @@ fn put_top_variable(out: &mut [u8], at: usize, v: u64, bound: u64) -> usize
 
 // A position of the stack, a task for each value and one more for none.
 fn put_position_variable(out: &mut [u8], at: usize, v: u64, tasks: u64) -> usize
-    requires { ⌜ (at + mostSectionBytes ≤ length (now out)) × (v < 1000) × (tasks ≤ mostTasks) ⌝ }
+    requires { ⌜ (at + mostSectionBytes ≤ length (now out)) × ThreeDigits v × (tasks ≤ mostTasks) ⌝ }
     ensures { λ r. ⌜ Appends (now (out .entry)) at (spellVariable (variable v (positionNames tasks))) (now (out .exit)) r ⌝ }
     ensures { λ r. ⌜ r ≤ at + mostSectionBytes ⌝ }
 {

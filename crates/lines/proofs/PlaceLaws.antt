@@ -60,7 +60,7 @@ module _ (s rest : List ℕ) (p : ℕ) where
 data Alike (s rest : List ℕ) (p : ℕ) : Digits → plans.Digits → Type 0 where
   neither : Alike s rest p No unread
   zero-led : (d : ℕ) (cs : List ℕ) → isDigit d ≡ true → Alike s rest p No (read 0 (d ∷ cs))
-  both : (v q : ℕ) (cs : List ℕ) → v < 1000 → p < q → Ahead s rest q cs → T (noFeed cs) → Alike s rest p (Got v q) (read v cs)
+  both : (v q : ℕ) (cs : List ℕ) → p < q → Ahead s rest q cs → T (noFeed cs) → Alike s rest p (Got v q) (read v cs)
 
 ended : (j n : ℕ) (cs : List ℕ) → isDigit (first cs) ≡ false → more j n cs ≡ read n cs
 ended zero n [] h = refl
@@ -80,7 +80,7 @@ module _ (s rest : List ℕ) (p : ℕ) where
       alike
       (small-two s p c (byte-at s rest p (c ∷ b ∷ cs) h) dc b (byte-at s rest (p + 1) (b ∷ cs) on-1) db z (first cs) (byte-at s rest (p + 2) cs on-2) e)
       (sym (ended 1 ((c - 48) * 10 + (b - 48)) cs e))
-      (both ((c - 48) * 10 + (b - 48)) (p + 2) cs (omega (arith, digit-range c dc, digit-range b db)) (omega arith) on-2 n)
+      (both ((c - 48) * 10 + (b - 48)) (p + 2) cs (omega arith) on-2 n)
 
   three-digits : (c b d : ℕ) (cs : List ℕ) → Ahead s rest p (c ∷ b ∷ d ∷ cs) → T (noFeed (d ∷ cs)) → isDigit c ≡ true → isDigit b ≡ true → c ≢ 48
       → isDigit d ≡ true → Alike s rest p (smallAt s p) (more 1 ((c - 48) * 10 + (b - 48)) (d ∷ cs))
@@ -90,7 +90,7 @@ module _ (s rest : List ℕ) (p : ℕ) where
       alike
       (small-three s p c (byte-at s rest p (c ∷ b ∷ d ∷ cs) h) dc b (byte-at s rest (p + 1) (b ∷ d ∷ cs) on-1) db z d (byte-at s rest (p + 2) (d ∷ cs) on-2) dd)
       (rw dd)
-      (both (((c - 48) * 10 + (b - 48)) * 10 + (d - 48)) (p + 3) cs (omega (arith, digit-range c dc, digit-range b db, digit-range d dd)) (omega arith)
+      (both (((c - 48) * 10 + (b - 48)) * 10 + (d - 48)) (p + 3) cs (omega arith)
       (step-on s rest (p + 2) d cs on-2 (p + 3) (omega arith)) (and-r (not (eqb d 10)) (noFeed cs) n))
 
   after-two : (c b : ℕ) (cs : List ℕ) → Ahead s rest p (c ∷ b ∷ cs) → T (noFeed cs) → isDigit c ≡ true → isDigit b ≡ true → c ≢ 48
@@ -110,7 +110,7 @@ module _ (s rest : List ℕ) (p : ℕ) where
       alike
       (small-one s p c (byte-at s rest p (c ∷ cs) h) dc (first cs) (byte-at s rest (p + 1) cs on-1) e)
       (begun c cs e y z)
-      (both (c - 48) (p + 1) cs (omega (arith, digit-range c dc)) (omega arith) on-1 n)
+      (both (c - 48) (p + 1) cs (omega arith) on-1 n)
   after-one c [] h n dc true e y z = absurd (false≢true e)
   after-one c (b ∷ cs) h n dc true e true z =
       alike
@@ -130,7 +130,7 @@ module _ (s rest : List ℕ) (p : ℕ) where
 
 -- What the code says of a line, and what the document does.
 data Agrees (s rest : List ℕ) (at : ℕ) : Line → plans.Line → Type 0 where
-  operators : (kind number pos next : ℕ) → drop next s ≡ rest → at + shortestLine ≤ next → next ≤ length s → kind ≤ 1 → number < 1000 → pos < 1000
+  operators : (kind number pos next : ℕ) → drop next s ≡ rest → at + shortestLine ≤ next → next ≤ length s → kind ≤ 1
       → Agrees s rest at (Op kind number pos next) (oper (kindOperator kind number pos))
   comments : (next : ℕ) → drop next s ≡ rest → at < next → next ≤ length s → Agrees s rest at (Comment next) note
   shapes : Agrees s rest at Shape other
@@ -141,10 +141,10 @@ agreed s rest at {c} {d} {l} {m} f g h =
 
 module _ (s rest : List ℕ) (at kind : ℕ) (k : kind ≤ 1) where
   -- The bytes after a position.
-  bracket-read : (number i q : ℕ) (cs : List ℕ) → number < 1000 → i < 1000 → at + 5 ≤ q → Ahead s rest q cs → T (noFeed cs)
+  bracket-read : (number i q : ℕ) (cs : List ℕ) → at + 5 ≤ q → Ahead s rest q cs → T (noFeed cs)
       → Agrees s rest at (closed s kind number (Got i q)) (ending (kindStep kind number) i cs)
-  bracket-read number i q [] ln li lq h n = agreed s rest at (rw (← byte-at s rest q [] h)) refl shapes
-  bracket-read number i q (c ∷ []) ln li lq h n = go (eqb c 41) refl
+  bracket-read number i q [] lq h n = agreed s rest at (rw (← byte-at s rest q [] h)) refl shapes
+  bracket-read number i q (c ∷ []) lq h n = go (eqb c 41) refl
     where
       on : Ahead s rest (q + 1) []
       on = step-on s rest q c [] h (q + 1) refl
@@ -157,9 +157,9 @@ module _ (s rest : List ℕ) (at kind : ℕ) (k : kind ≤ 1) where
           agreed s rest at
           (rw (← byte-at s rest q (c ∷ []) h, e, ← byte-at s rest (q + 1) [] on))
           (rw e)
-          (operators kind number i (q + 2) beyond (omega arith) (omega (arith, feed-inside s rest (q + 1) [] on)) k ln li)
+          (operators kind number i (q + 2) beyond (omega arith) (omega (arith, feed-inside s rest (q + 1) [] on)) k)
       go false e = agreed s rest at (rw (← byte-at s rest q (c ∷ []) h, e)) (rw e) shapes
-  bracket-read number i q (c ∷ d ∷ cs) ln li lq h n = go (eqb c 41) refl
+  bracket-read number i q (c ∷ d ∷ cs) lq h n = go (eqb c 41) refl
     where
       on : Ahead s rest (q + 1) (d ∷ cs)
       on = step-on s rest q c (d ∷ cs) h (q + 1) refl
@@ -173,29 +173,29 @@ module _ (s rest : List ℕ) (at kind : ℕ) (k : kind ≤ 1) where
           (rw (← byte-at s rest q (c ∷ d ∷ cs) h, e, ← byte-at s rest (q + 1) (d ∷ cs) on, ne-eqb d 10 other-byte)) refl shapes
       go false e = agreed s rest at (rw (← byte-at s rest q (c ∷ d ∷ cs) h, e)) refl shapes
 
-  position-read : (number p : ℕ) {d : Digits} {e : plans.Digits} → number < 1000 → at + 4 ≤ p → Alike s rest p d e
+  position-read : (number p : ℕ) {d : Digits} {e : plans.Digits} → at + 4 ≤ p → Alike s rest p d e
       → Agrees s rest at (closed s kind number d) (position (kindStep kind number) e)
-  position-read number p ln lp neither = shapes
-  position-read number p ln lp (zero-led d [] h) = rw (ne-eqb d 41 (not-digit d 41 h refl)) shapes
-  position-read number p ln lp (zero-led d (b ∷ cs) h) = shapes
-  position-read number p ln lp (both i q cs li lq h n) = bracket-read number i q cs ln li (omega arith) h n
+  position-read number p lp neither = shapes
+  position-read number p lp (zero-led d [] h) = rw (ne-eqb d 41 (not-digit d 41 h refl)) shapes
+  position-read number p lp (zero-led d (b ∷ cs) h) = shapes
+  position-read number p lp (both i q cs lq h n) = bracket-read number i q cs (omega arith) h n
 
-  space-read : (number q : ℕ) (cs : List ℕ) → number < 1000 → at + 3 ≤ q → Ahead s rest q cs → T (noFeed cs)
+  space-read : (number q : ℕ) (cs : List ℕ) → at + 3 ≤ q → Ahead s rest q cs → T (noFeed cs)
       → Agrees s rest at (positioned s kind (Got number q)) (space (kindStep kind number) cs)
-  space-read number q [] ln lq h n = agreed s rest at (rw (← byte-at s rest q [] h)) refl shapes
-  space-read number q (c ∷ cs) ln lq h n = go (eqb c 32) refl
+  space-read number q [] lq h n = agreed s rest at (rw (← byte-at s rest q [] h)) refl shapes
+  space-read number q (c ∷ cs) lq h n = go (eqb c 32) refl
     where
       go : (x : Bool) → eqb c 32 ≡ x → Agrees s rest at (positioned s kind (Got number q)) (space (kindStep kind number) (c ∷ cs))
       go true e =
           agreed s rest at (rw (← byte-at s rest q (c ∷ cs) h, e)) (rw e)
-          (position-read number (q + 1) ln (omega arith)
+          (position-read number (q + 1) (omega arith)
           (number-read s rest (q + 1) cs (step-on s rest q c cs h (q + 1) refl) (and-r (not (eqb c 10)) (noFeed cs) n)))
       go false e = agreed s rest at (rw (← byte-at s rest q (c ∷ cs) h, e)) (rw e) shapes
 
   name-read : (p : ℕ) {d : Digits} {e : plans.Digits} → at + 2 ≤ p → Alike s rest p d e → Agrees s rest at (positioned s kind d) (named (kindStep kind) e)
   name-read p lp neither = shapes
   name-read p lp (zero-led d cs h) = rw (ne-eqb d 32 (not-digit d 32 h refl)) shapes
-  name-read p lp (both number q cs ln lq h n) = space-read number q cs ln (omega arith) h n
+  name-read p lp (both number q cs lq h n) = space-read number q cs (omega arith) h n
 
 -- What follows the opening bracket.
 module _ (s rest : List ℕ) (at : ℕ) where
@@ -262,14 +262,12 @@ left-over {s} w at h l =
     ∙ ap leftover (drop-cons s at 0 l)
 
 first-line : (s rest : List ℕ) (at : ℕ) {r : Line} {l : plans.Line} → linesOf (drop at s) ≡ l ∷ linesOf rest → Agrees s rest at r l → IsLine s at r
-first-line s rest at e (operators kind number pos next b o w k ln lp) =
+first-line s rest at e (operators kind number pos next b o w k) =
     record {
       lines = e ∙ ap (λ (ds : List ℕ). oper (kindOperator kind number pos) ∷ linesOf ds) (sym b);
       onward = o;
       within = w;
       known = k;
-      number-low = ln;
-      position-low = lp;
     }
 first-line s rest at e (comments next b o w) = record { lines = e ∙ ap (λ (ds : List ℕ). note ∷ linesOf ds) (sym b); onward = o; within = w }
 first-line s rest at e shapes = (linesOf rest, e)

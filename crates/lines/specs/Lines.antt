@@ -30,8 +30,6 @@ pub record OperatorLine (s : List ℕ) (at kind number pos next : ℕ) : Type 0 
   pub onward : at + shortestLine ≤ next
   pub within : next ≤ length s
   pub known : kind ≤ 1
-  pub number-low : number < 1000
-  pub position-low : pos < 1000
 
 pub record CommentLine (s : List ℕ) (at next : ℕ) : Type 0 where
   pub lines : linesOf (drop at s) ≡ note ∷ linesOf (drop next s)

@@ -7,6 +7,7 @@ use mathlib.Core.Option.{none}
 use lib.Dec.{eqb}
 use lib.ListN.{length, getD}
 use Rattle.basics.specs.Lists.{upto}
+use Rattle.basics.specs.Texts.{ThreeDigits}
 use Rattle.version3.specs.Problems.{Effect}
 use Rattle.version3.specs.Spelling.{spellSetting, spellEffect}
 use Rattle.rules.specs.Limits.{mostSubtasks}
@@ -64,4 +65,4 @@ above top ops cells = pushAll top (rowAt ops cells 0 .rest)
 -- The first row leaves tasks of at most three digits each.
 pub record Left (ops cells : List ℕ) : Type 0 where
   pub held : RowHeld ops cells 0
-  pub low : (m : ℕ) → m < length (rowAt ops cells 0 .rest) → getD (rowAt ops cells 0 .rest) m 0 < 1000
+  pub low : (m : ℕ) → m < length (rowAt ops cells 0 .rest) → ThreeDigits (getD (rowAt ops cells 0 .rest) m 0)

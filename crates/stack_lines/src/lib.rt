@@ -1,5 +1,6 @@
 // The lines of the stack in an operator's template: the top, the place of the task, and the places above it.
 ghost use Prim.Native.Nat.{_≤_, _<_};
+ghost use Rattle.basics.specs.Texts.{ThreeDigits};
 ghost use Rattle.rules.specs.Limits.{mostFacts, mostSubtasks};
 ghost use Rattle.drawing.specs.Draws.{Room, Draws};
 ghost use Rattle.stack_lines.specs.StackLines.{topStays, taskStays, topMoves, taskMoves, pushOne, above, Left};
@@ -35,7 +36,7 @@ pub fn task_stays(
     task: u64,
     bottom: u64,
 ) -> Pen
-    requires { ⌜ Room (taskStays top task bottom) (now t) (now lens) (now offs) pen × (top ≤ mostFacts) × (task < 1000) ⌝ }
+    requires { ⌜ Room (taskStays top task bottom) (now t) (now lens) (now offs) pen × (top ≤ mostFacts) × ThreeDigits task ⌝ }
     ensures { λ r. ⌜ Draws (taskStays top task bottom) (now (t .entry)) (now (lens .entry)) (now (offs .entry)) pen (now (t .exit)) (now (lens .exit)) (now (offs .exit)) r ⌝ }
 {
     if bottom != task {
@@ -76,7 +77,7 @@ pub fn task_moves(
     task: u64,
     bottom: u64,
 ) -> Pen
-    requires { ⌜ Room (taskMoves top task bottom) (now t) (now lens) (now offs) pen × (top ≤ mostFacts) × (task < 1000) × (bottom < 1000) ⌝ }
+    requires { ⌜ Room (taskMoves top task bottom) (now t) (now lens) (now offs) pen × (top ≤ mostFacts) × ThreeDigits task × ThreeDigits bottom ⌝ }
     ensures { λ r. ⌜ Draws (taskMoves top task bottom) (now (t .entry)) (now (lens .entry)) (now (offs .entry)) pen (now (t .exit)) (now (lens .exit)) (now (offs .exit)) r ⌝ }
 {
     if bottom == task {
@@ -98,7 +99,7 @@ fn push(
     j: usize,
     task: u64,
 ) -> Pen
-    requires { ⌜ Room (pushOne top j task) (now t) (now lens) (now offs) pen × (top ≤ mostFacts) × (j < mostSubtasks) × (task < 1000) ⌝ }
+    requires { ⌜ Room (pushOne top j task) (now t) (now lens) (now offs) pen × (top ≤ mostFacts) × (j < mostSubtasks) × ThreeDigits task ⌝ }
     ensures { λ r. ⌜ Draws (pushOne top j task) (now (t .entry)) (now (lens .entry)) (now (offs .entry)) pen (now (t .exit)) (now (lens .exit)) (now (offs .exit)) r ⌝ }
 {
     let o = top as usize + j + 2;

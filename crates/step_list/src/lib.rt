@@ -14,7 +14,7 @@ use rules::limits;
 
 // One step's word, low byte first.
 fn put_word(out: &mut [u8], at: usize, word: u64)
-    requires { ⌜ (at + 2 ≤ length (now out)) × (word < 65536) ⌝ }
+    requires { ⌜ (at + 2 ≤ length (now out)) × (word < 256 * 256) ⌝ }
     ensures { λ _. ⌜ now (out .exit) ≡ sets (now (out .entry)) at ((word % 256) ∷ (word / 256) ∷ []) ⌝ }
 {
     out[at] = (word % 256) as u8;

@@ -5,7 +5,7 @@ ghost use mathlib.Core.List.{List, [], _∷_, _++_};
 ghost use Prim.Native.Nat.{ℕ, _+_, _*_, _-_, _≤_, _<_};
 ghost use lib.ListN.{length, take, drop};
 ghost use Rattle.basics.specs.Lists.{upto};
-ghost use Rattle.basics.specs.Texts.{digits};
+ghost use Rattle.basics.specs.Texts.{digits, ThreeDigits};
 ghost use Rattle.rules.specs.Limits.{mostBound};
 ghost use Rattle.text.specs.Appends.{Appends};
 ghost use Rattle.template.specs.Sizes.{chunk, margin, mostOffset, figureCount, figureBytes, operatorBytes};
@@ -103,7 +103,7 @@ fn ascii(n: usize) -> u8
 }
 
 fn fill_figure(figures: &mut [u8], at: usize, n: usize) -> usize
-    requires { ⌜ (at + 4 ≤ length (now figures)) × (n < 1000) ⌝ }
+    requires { ⌜ (at + 4 ≤ length (now figures)) × ThreeDigits n ⌝ }
     ensures { λ r. ⌜ Appends (now (figures .entry)) at (figure n) (now (figures .exit)) r ⌝ }
     ensures { λ r. ⌜ r ≡ at + 4 ⌝ }
 {

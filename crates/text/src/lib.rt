@@ -1,10 +1,10 @@
 // Bytes, decimal numbers and lines, each written at a place in text that is lent; the place after it is handed back.
 ghost use mathlib.Core.Path.{_≡_};
 ghost use mathlib.Core.List.{_++_};
-ghost use Prim.Native.Nat.{_+_, _≤_, _<_};
+ghost use Prim.Native.Nat.{_+_, _≤_};
 ghost use lib.ListN.{length};
 ghost use lib.Seq.{sets};
-ghost use Rattle.basics.specs.Texts.{digits};
+ghost use Rattle.basics.specs.Texts.{digits, ThreeDigits};
 ghost use Rattle.text.specs.Appends.{Appends};
 
 // Bytes that are known to fit; nothing else changes.
@@ -53,7 +53,7 @@ pub fn put_number(out: &mut [u8], at: usize, n: u64) -> usize
 
 // Text, and a number of at most three digits after it.
 pub fn put_field(out: &mut [u8], at: usize, s: &[u8], n: u64) -> usize
-    requires { ⌜ (at + length (now s) + 3 ≤ length (now out)) × (n < 1000) ⌝ }
+    requires { ⌜ (at + length (now s) + 3 ≤ length (now out)) × ThreeDigits n ⌝ }
     ensures { λ r. ⌜ Appends (now (out .entry)) at (now (s .entry) ++ digits n) (now (out .exit)) r ⌝ }
     ensures { λ r. ⌜ r ≤ at + length (now (s .entry)) + 3 ⌝ }
 {

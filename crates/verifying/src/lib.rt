@@ -8,8 +8,11 @@ ghost use Rattle.report.specs.Reports.{lineRoom, lineOf};
 ghost use Rattle.verifying.specs.Input.{checkInput};
 use rules::Verdict;
 
-// The header, the longest table that two bytes of length can name, and a plan one byte too long: what follows is not looked at.
-pub const MOST_INPUT: usize = 4 + 65535 + rules::limits::MOST_PLAN_BYTES + 1;
+// What two bytes of length can name.
+const LONGEST_TABLE: usize = 256 * 256 - 1;
+
+// The header, the longest table, and a plan one byte too long: what follows is not looked at.
+pub const MOST_INPUT: usize = 4 + LONGEST_TABLE + rules::limits::MOST_PLAN_BYTES + 1;
 
 pub fn judge(input: &[u8]) {
     let mut line = [0u8; report::LINE_ROOM];
