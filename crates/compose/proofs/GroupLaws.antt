@@ -29,7 +29,7 @@ use Rattle.drawing.specs.Pieces.{Piece}
 use Rattle.drawing.specs.Draws.{Room}
 use Rattle.stack_lines.specs.StackLines.{topStaysText, taskStaysText, topMovesText, taskMovesText, pushed, pushAll}
 use Rattle.rows.specs.Rows.{Row}
-use Rattle.compose.specs.Groups.{opening, ending, prevailGroup, effectGroup, whole}
+use Rattle.compose.specs.Groups.{namePiece, costPiece, prevailGroup, effectGroup, whole}
 use Rattle.compose.specs.RowTexts.{setsOf, Small}
 
 -- The top stays where one task is left.
@@ -42,17 +42,17 @@ top-same p stay =
 
 -- ---- words in a row
 
-opening-flat : (b n s d f : List ℕ) → b ++ n ++ (s ++ d ++ f) ≡ b ++ ((n ++ (s ++ d)) ++ f)
-opening-flat b n s d f = simp append-assoc
+name-flat : (b n s d f : List ℕ) → b ++ n ++ (s ++ d ++ f) ≡ b ++ ((n ++ (s ++ d)) ++ f)
+name-flat b n s d f = simp append-assoc
 
-pub opening-words : (letter k p : ℕ)
-    → bytes "begin_operator\n" ++ (letter ∷ digits k) ++ (bytes " " ++ digits (p + 1) ++ bytes "\n") ≡ opening letter k .text p
-opening-words letter k p =
-    opening-flat (bytes "begin_operator\n") (letter ∷ digits k) (bytes " ") (digits (p + 1)) (bytes "\n")
+pub name-words : (letter k p : ℕ)
+    → bytes "begin_operator\n" ++ (letter ∷ digits k) ++ (bytes " " ++ digits (p + 1) ++ bytes "\n") ≡ namePiece letter k .text p
+name-words letter k p =
+    name-flat (bytes "begin_operator\n") (letter ∷ digits k) (bytes " ") (digits (p + 1)) (bytes "\n")
     ∙ ap (λ (n : ℕ). bytes "begin_operator\n" ++ (((letter ∷ digits k) ++ (bytes " " ++ digits n)) ++ bytes "\n")) (add-one p)
 
-pub ending-words : (cost : ℕ) → numberLine cost ++ bytes "end_operator\n" ≡ digits cost ++ bytes "\nend_operator\n"
-ending-words cost = append-assoc (digits cost) (bytes "\n") (bytes "end_operator\n")
+pub cost-words : (cost : ℕ) → numberLine cost ++ bytes "end_operator\n" ≡ digits cost ++ bytes "\nend_operator\n"
+cost-words cost = append-assoc (digits cost) (bytes "\n") (bytes "end_operator\n")
 
 -- A group's count and facts, in words of the code.
 pub facts-as : {m n : ℕ} {x y : List ℕ} → m ≡ n → x ≡ y → numberLine m ++ x ≡ numberLine n ++ y
@@ -152,12 +152,12 @@ module _ (top free : ℕ) (j : Join) (task : ℕ) (rest : List ℕ) (p bottom : 
       ≡ spellOper (operAt top free (letter ∷ digits k) j task (suc p) rest cost)
   unfolding spellOper operAt
   operator-cut letter k cost low high =
-      let first : List ℕ = opening letter k .text p ++ prevailGroup top (j .needs) (j .dels) stay task bottom .text p in
+      let first : List ℕ = namePiece letter k .text p ++ prevailGroup top (j .needs) (j .dels) stay task bottom .text p in
       let second : List ℕ = effectGroup top (j .needs) (j .adds) (j .dels) stay task bottom .text p in
-      ap (λ (x : List ℕ). x ++ ending cost .text p) (append-assoc first second (pushAll top rest .text p))
-      ∙ (λ i. opening letter k .text p ++ sym (prevails-cut low) i ++ sym (effects-cut high) i ++ ending cost .text p)
+      ap (λ (x : List ℕ). x ++ costPiece cost .text p) (append-assoc first second (pushAll top rest .text p))
+      ∙ (λ i. namePiece letter k .text p ++ sym (prevails-cut low) i ++ sym (effects-cut high) i ++ costPiece cost .text p)
       ∙ sym (append-assoc
-      (opening letter k .text p ++ counted (map spellSetting (prevails top free j task (suc p) rest)) ++ counted (map spellEffect (effects top free j task (suc p) rest)))
+      (namePiece letter k .text p ++ counted (map spellSetting (prevails top free j task (suc p) rest)) ++ counted (map spellEffect (effects top free j task (suc p) rest)))
       (numberLine cost) (bytes "end_operator\n"))
 
 -- ---- what stands in the place of the task

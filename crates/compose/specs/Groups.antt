@@ -15,12 +15,12 @@ use Rattle.listing.specs.Listings.{holdText, changeText, holdBytes, changeBytes
 use Rattle.drawing.specs.Pieces.{Piece, _then_, fixed}
 use Rattle.stack_lines.specs.StackLines.{topStays, taskStays, topMoves, taskMoves, pushAll}
 
-abbrev pub opening : ℕ → ℕ → Piece
-opening letter k =
+abbrev pub namePiece : ℕ → ℕ → Piece
+namePiece letter k =
     record { text = λ p. bytes "begin_operator\n" ++ wordLine ((letter ∷ digits k) ++ (32 ∷ digits (suc p))); bytes = 21; numbers = 1 }
 
-abbrev pub ending : ℕ → Piece
-ending cost = fixed (numberLine cost ++ bytes "end_operator\n") 34
+abbrev pub costPiece : ℕ → Piece
+costPiece cost = fixed (numberLine cost ++ bytes "end_operator\n") 34
 
 -- How many lines a group has, and those of its facts.
 abbrev pub factLines : ℕ → List ℕ → ℕ → Piece
@@ -56,8 +56,8 @@ effectLines top needs adds dels stay task bottom = effectGroup top (setOf needs)
 -- All of it, where `rest` is left.
 abbrev pub whole : ℕ → ℕ → ℕ → ℕ → ℕ → ℕ → ℕ → ℕ → ℕ → List ℕ → ℕ → Piece
 whole top letter k needs adds dels stay task bottom rest cost =
-    opening letter k
+    namePiece letter k
     then prevailGroup top needs dels stay task bottom
     then effectGroup top needs adds dels stay task bottom
     then pushAll top rest
-    then ending cost
+    then costPiece cost

@@ -24,7 +24,7 @@ use rows::row;
 use template::Pen;
 
 // The name and the position.
-fn opening(
+fn put_name(
     t: &mut [u8],
     lens: &mut [usize],
     offs: &mut [usize],
@@ -32,8 +32,8 @@ fn opening(
     letter: u8,
     k: u64,
 ) -> Pen
-    requires { ⌜ Room (Groups.opening letter k) (now t) (now lens) (now offs) pen × ThreeDigits k ⌝ }
-    ensures { λ r. ⌜ Draws (Groups.opening letter k) (now (t .entry)) (now (lens .entry)) (now (offs .entry)) pen (now (t .exit)) (now (lens .exit)) (now (offs .exit)) r ⌝ }
+    requires { ⌜ Room (Groups.namePiece letter k) (now t) (now lens) (now offs) pen × ThreeDigits k ⌝ }
+    ensures { λ r. ⌜ Draws (Groups.namePiece letter k) (now (t .entry)) (now (lens .entry)) (now (offs .entry)) pen (now (t .exit)) (now (lens .exit)) (now (offs .exit)) r ⌝ }
 {
     let kind = [letter];
     let name = drawing::write(t, pen, b"begin_operator\n");
@@ -42,9 +42,9 @@ fn opening(
 }
 
 // What it costs, and the end.
-fn ending(t: &mut [u8], pen: Pen, cost: u64) -> Pen
-    requires { ⌜ Space (Groups.ending cost) (now t) pen ⌝ }
-    ensures { λ r. ⌜ Writes (Groups.ending cost) (now (t .entry)) pen (now (t .exit)) r ⌝ }
+fn put_cost(t: &mut [u8], pen: Pen, cost: u64) -> Pen
+    requires { ⌜ Space (Groups.costPiece cost) (now t) pen ⌝ }
+    ensures { λ r. ⌜ Writes (Groups.costPiece cost) (now (t .entry)) pen (now (t .exit)) r ⌝ }
 {
     let next = text::put_number(t, pen.at, cost);
     let end = text::put(t, next, b"\nend_operator\n");
@@ -197,7 +197,7 @@ pub fn compose(
         from: 0,
         count: 0,
     };
-    let name = opening(t, lens, offs, start, letter, k);
+    let name = put_name(t, lens, offs, start, letter, k);
     let before = prevails(t, lens, offs, name, top, needs, dels, stay, task, bottom);
     let after = effects(
         t,
@@ -213,5 +213,5 @@ pub fn compose(
         bottom,
     );
     let higher = stack_lines::pushes(t, lens, offs, after, top, ops, cells);
-    ending(t, higher, cost)
+    put_cost(t, higher, cost)
 }

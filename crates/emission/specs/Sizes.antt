@@ -2,7 +2,7 @@
 use Prim.Native.Nat.{ℕ, _+_, _*_}
 use Rattle.rules.specs.Limits.{mostSectionBytes}
 use Rattle.problem.specs.Sizes.{mostVariables}
-use Rattle.template.specs.Sizes.{margin, stepBytes}
+use Rattle.template.specs.Sizes.{margin, stepTextBytes}
 
 -- The sections of the variables; and all before the operators, which are two sections more.
 abbrev pub variablesBytes : ℕ
@@ -13,7 +13,7 @@ frontBytes = variablesBytes + 2 * mostSectionBytes
 
 -- What the operators of one step need.
 abbrev pub stepSpace : ℕ
-stepSpace = stepBytes + margin
+stepSpace = stepTextBytes + margin
 
 -- What is written at a time: room for all that stands before the operators, and then for the operators of five steps.
 abbrev pub partBytes : ℕ

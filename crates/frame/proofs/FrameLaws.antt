@@ -23,18 +23,18 @@ use Rattle.laws.specs.Steps.{variableText}
 use Rattle.laws.proofs.ListLaws.{rows-length, map-rows}
 use Rattle.laws.proofs.TextLaws.{concat-append, concat-rows}
 use Rattle.laws.proofs.MemberLaws.{members-ones}
-use Rattle.frame.specs.Frames.{labelled, variable, opening, positionNames, startLine, stateText, goalText}
+use Rattle.frame.specs.Frames.{labelled, variable, variableHead, positionNames, startLine, stateText, goalText}
 
 -- ---- variables
 
-pub opening-lines : (v n : ℕ) → opening v n ≡ labelled (bytes "begin_variable\nvar") v ++ labelled (bytes "-1\n") n
-unfolding opening
-opening-lines v n = append-assoc (labelled (bytes "begin_variable\nvar") v) (bytes "-1\n") (numberLine n)
+pub head-lines : (v n : ℕ) → variableHead v n ≡ labelled (bytes "begin_variable\nvar") v ++ labelled (bytes "-1\n") n
+unfolding variableHead
+head-lines v n = append-assoc (labelled (bytes "begin_variable\nvar") v) (bytes "-1\n") (numberLine n)
 
 -- A section by the number of its values and their text.
 whole : (v n : ℕ) (names : List (List ℕ)) (x : List ℕ) → length names ≡ n → concat (map wordLine names) ≡ x
-    → spellVariable (variable v names) ≡ opening v n ++ x ++ bytes "end_variable\n"
-unfolding spellVariable opening
+    → spellVariable (variable v names) ≡ variableHead v n ++ x ++ bytes "end_variable\n"
+unfolding spellVariable variableHead
 whole v n names x p q =
     let a : List ℕ = bytes "begin_variable\n" ++ labelled (bytes "var") v ++ bytes "-1\n" in
     ap₂ (λ (m : ℕ) (y : List ℕ). a ++ (numberLine m ++ y) ++ bytes "end_variable\n") (length-map names wordLine ∙ p) q
@@ -48,14 +48,14 @@ two-names : (o a b e : List ℕ) → o ++ (a ++ (b ++ [])) ++ e ≡ o ++ a ++ b 
 two-names o a b e = simp (append-nil, append-assoc)
 
 pub fact-lines : (v : ℕ)
-    → spellVariable (variable v (factNames v)) ≡ opening v 2 ++ labelled (bytes "Atom f") v ++ labelled (bytes "NegatedAtom f") v ++ bytes "end_variable\n"
+    → spellVariable (variable v (factNames v)) ≡ variableHead v 2 ++ labelled (bytes "Atom f") v ++ labelled (bytes "NegatedAtom f") v ++ bytes "end_variable\n"
 unfolding concat
 fact-lines v =
     let holds : List ℕ = labelled (bytes "Atom f") v in
     let fails : List ℕ = labelled (bytes "NegatedAtom f") v in
-    whole v 2 (factNames v) (holds ++ (fails ++ [])) refl refl ∙ two-names (opening v 2) holds fails (bytes "end_variable\n")
+    whole v 2 (factNames v) (holds ++ (fails ++ [])) refl refl ∙ two-names (variableHead v 2) holds fails (bytes "end_variable\n")
 
-pub top-lines : (v b : ℕ) → spellVariable (variable v (heightNames b)) ≡ opening v (b + 1) ++ upto (labelled (bytes "top")) (b + 1) ++ bytes "end_variable\n"
+pub top-lines : (v b : ℕ) → spellVariable (variable v (heightNames b)) ≡ variableHead v (b + 1) ++ upto (labelled (bytes "top")) (b + 1) ++ bytes "end_variable\n"
 top-lines v b =
     whole v (b + 1) (heightNames b) (upto (labelled (bytes "top")) (b + 1))
     (rows-length (λ h. bytes "top" ++ digits h) (suc b) ∙ sym (add-one b))
@@ -64,7 +64,7 @@ top-lines v b =
 last-name : (o u n e : List ℕ) → o ++ (u ++ n) ++ e ≡ o ++ u ++ (n ++ e)
 last-name o u n e = simp append-assoc
 
-pub position-lines : (v n : ℕ) → spellVariable (variable v (positionNames n)) ≡ opening v (n + 1) ++ upto (labelled (bytes "t")) n ++ bytes "none\nend_variable\n"
+pub position-lines : (v n : ℕ) → spellVariable (variable v (positionNames n)) ≡ variableHead v (n + 1) ++ upto (labelled (bytes "t")) n ++ bytes "none\nend_variable\n"
 unfolding concat
 position-lines v n =
     let names : List (List ℕ) = rows (λ k. bytes "t" ++ digits k) n in
@@ -74,7 +74,7 @@ position-lines v n =
     (ap concat (map-append wordLine names (bytes "none" ∷ []))
     ∙ concat-append (map wordLine names) (bytes "none\n" ∷ [])
     ∙ ap (λ (x : List ℕ). x ++ bytes "none\n") (names-text (bytes "t") n))
-    ∙ last-name (opening v (n + 1)) tasks (bytes "none\n") (bytes "end_variable\n")
+    ∙ last-name (variableHead v (n + 1)) tasks (bytes "none\n") (bytes "end_variable\n")
 
 module _ (b : ℕ) (t : Table) (v : ℕ) where
   by-names : {names : List (List ℕ)} → valueNames b t v ≡ names → variableText b t v ≡ spellVariable (variable v names)

@@ -16,8 +16,8 @@ labelled s n = wordLine (s ++ digits n)
 abbrev pub variable : ℕ → List (List ℕ) → Variable
 variable v names = record { name = bytes "var" ++ digits v; values = names }
 
-unfoldable pub opening : ℕ → ℕ → List ℕ
-opening v n = bytes "begin_variable\n" ++ labelled (bytes "var") v ++ bytes "-1\n" ++ numberLine n
+unfoldable pub variableHead : ℕ → ℕ → List ℕ
+variableHead v n = bytes "begin_variable\n" ++ labelled (bytes "var") v ++ bytes "-1\n" ++ numberLine n
 
 -- The values of a position, of n tasks in all.
 abbrev pub positionNames : ℕ → List (List ℕ)

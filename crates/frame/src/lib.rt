@@ -15,7 +15,7 @@ ghost use Rattle.laws.specs.Steps.{variableText};
 ghost use Rattle.words.specs.Words.{tableOf, Held};
 ghost use Rattle.problem.specs.Sizes.{mostVariables};
 ghost use Rattle.text.specs.Appends.{Appends};
-ghost use Rattle.frame.specs.Frames.{labelled, opening, variable, positionNames, startLine, stateText, goalText};
+ghost use Rattle.frame.specs.Frames.{labelled, variableHead, variable, positionNames, startLine, stateText, goalText};
 ghost use Rattle.frame.specs.Sizes.{namesBytes, valuesBytes, stateBytes, goalBytes};
 use listing::Says;
 
@@ -47,7 +47,7 @@ pub fn put_preamble(words: &[u64], bound: u64, out: &mut [u8], at: usize) -> usi
 // A variable's section as far as its count of values.
 fn put_opening(out: &mut [u8], at: usize, v: u64, values: u64) -> usize
     requires { ⌜ (at + 32 ≤ length (now out)) × ThreeDigits v × ThreeDigits values ⌝ }
-    ensures { λ r. ⌜ Appends (now (out .entry)) at (opening v values) (now (out .exit)) r ⌝ }
+    ensures { λ r. ⌜ Appends (now (out .entry)) at (variableHead v values) (now (out .exit)) r ⌝ }
     ensures { λ r. ⌜ r ≤ at + 32 ⌝ }
 {
     let next = put_line(out, at, b"begin_variable\nvar", v);

@@ -13,7 +13,7 @@ use mathlib.Core.Bool.{Bool, true, false, cond}
 use lib.Dec.{ltb, leb, eqb, lit<}
 use lib.ListN.{length, take, drop, getD, drop-of-length-le, length-drop}
 use lib.Seq.{drop-cons, slice, slice-cons, slice-empty, getD-drop}
-use Rattle.rules.specs.Numbers.{run, spell, sound, numberAt, readNumber, inRange, ranged}
+use Rattle.rules.specs.Numbers.{run, groupsValue, sound, numberAt, readNumber, inRange, ranged}
 use Rattle.basics.specs.Readings.{Reading, got, bad, then}
 
 module _ (s : List ℕ) (i : ℕ) where
@@ -29,20 +29,20 @@ module _ (s : List ℕ) (i : ℕ) where
   unfolding run
   run-more h b = rw (drop-cons s i 0 h, le-ltb _ _ b, add-one, add-one)
 
--- the groups from i on spell the one at i and 128 times the rest
+-- the groups from i on stand for the one at i and 128 times the rest
 module _ (s : List ℕ) (e : ℕ) (h : e < length s) where
-  pub spell-one : getD s e 0 < 128 → spell (slice e (e + 1) s) ≡ getD s e 0
-  unfolding spell
+  pub spell-one : getD s e 0 < 128 → groupsValue (slice e (e + 1) s) ≡ getD s e 0
+  unfolding groupsValue
   spell-one b =
       let q : slice (suc e) (e + 1) s ≡ [] = subst (λ (n : ℕ). slice n (e + 1) s ≡ []) (add-one e) (slice-empty (e + 1) s) in
-      ap spell (slice-cons e (e + 1) s 0 (omega arith) (omega arith)) ∙ omega (arith, ap spell q)
+      ap groupsValue (slice-cons e (e + 1) s 0 (omega arith) (omega arith)) ∙ omega (arith, ap groupsValue q)
 
-  pub spell-prev : (i : ℕ) → 0 < i → i ≤ e → spell (slice (i - 1) (e + 1) s) ≡ getD s (i - 1) 0 % 128 + 128 * spell (slice i (e + 1) s)
-  unfolding spell
+  pub spell-prev : (i : ℕ) → 0 < i → i ≤ e → groupsValue (slice (i - 1) (e + 1) s) ≡ getD s (i - 1) 0 % 128 + 128 * groupsValue (slice i (e + 1) s)
+  unfolding groupsValue
   spell-prev i p q =
       let x : suc (i - 1) ≡ i = omega arith in
-      ap spell (slice-cons (i - 1) (e + 1) s 0 (omega arith) (omega arith))
-      ∙ ap (λ (n : ℕ). getD s (i - 1) 0 % 128 + 128 * spell (slice n (e + 1) s)) x
+      ap groupsValue (slice-cons (i - 1) (e + 1) s 0 (omega arith) (omega arith))
+      ∙ ap (λ (n : ℕ). getD s (i - 1) 0 % 128 + 128 * groupsValue (slice n (e + 1) s)) x
 
 -- what has n groups of room below 64 bits
 pub room : (n v x : ℕ) → v < 2 * 128 ^ n → x < 128 → v * 128 + x < 2 * 128 ^ suc n
@@ -105,7 +105,7 @@ module _ (s : List ℕ) (at e : ℕ) (q : e ≡ at + run (drop at s)) where
       let k : run (drop at s) ≡ e - at = omega arith in
       rw (← q, lt-ltb e (length s) h, k, t)
 
-  pub number-got : e < length s → sound (e - at) (getD s e 0) ≡ true → readNumber s at ≡ got (spell (slice at (e + 1) s)) (e + 1)
+  pub number-got : e < length s → sound (e - at) (getD s e 0) ≡ true → readNumber s at ≡ got (groupsValue (slice at (e + 1) s)) (e + 1)
   unfolding numberAt
   number-got h t =
       let k : run (drop at s) ≡ e - at = omega arith in

@@ -12,7 +12,7 @@ use native.Mathlib.Numerals.{add-one}
 use borrow.Author.Tests.{leb-true, eq-eqb, ne-eqb, lt-ltb, le-ltb}
 use mathlib.Core.Logic.{_≢_}
 use Rattle.rules.specs.Plans.{isDigit}
-use Rattle.lines.specs.Places.{smallAt, closed, positioned, kindOf, operatorAt, feedAt, lineAt}
+use Rattle.lines.specs.Places.{smallAt, bracketed, positioned, kindOf, operatorAt, feedAt, lineAt}
 use Rattle.lines.specs.Lines.{Fed, Whole}
 use Rattle.lines.specs.declared.Digits.{Digits}
 use Rattle.lines.specs.declared.Digits.the-variants.{Got, No}
@@ -88,14 +88,14 @@ small-fed {s} {at} {v} {q} f h = go (isDigit (getD s at 0)) refl (isDigit (getD 
 
 -- The ways out after a position, by its closing bracket y and whether the line ends after it.
 module _ (s : List ℕ) (kind number pos q y : ℕ) (ey : y ≡ getD s q 0) where
-  pub close-other : y ≢ 41 → Shape ≡ closed s kind number (Got pos q)
+  pub close-other : y ≢ 41 → Shape ≡ bracketed s kind number (Got pos q)
   close-other n = rw (← ey, ne-eqb y 41 n)
 
   module _ (e : y ≡ 41) {end : Bool} (ee : end ≡ eqb (getD s (q + 1) 0) 10) where
-    pub close-on : end ≡ false → Shape ≡ closed s kind number (Got pos q)
+    pub close-on : end ≡ false → Shape ≡ bracketed s kind number (Got pos q)
     close-on n = rw (← ey, eq-eqb y 41 e, ← ee, n)
 
-    pub close-ends : end ≡ true → Op kind number pos (q + 2) ≡ closed s kind number (Got pos q)
+    pub close-ends : end ≡ true → Op kind number pos (q + 2) ≡ bracketed s kind number (Got pos q)
     close-ends n = rw (← ey, eq-eqb y 41 e, ← ee, n)
 
 -- After a name, by the space x.
@@ -103,8 +103,8 @@ module _ (s : List ℕ) (kind number p x : ℕ) (ex : x ≡ getD s p 0) where
   pub space-other : x ≢ 32 → Shape ≡ positioned s kind (Got number p)
   space-other n = rw (← ex, ne-eqb x 32 n)
 
-  pub space-on : x ≡ 32 → {d : Digits} → d ≡ smallAt s (p + 1) → closed s kind number d ≡ positioned s kind (Got number p)
-  space-on e h = rw (← ex, eq-eqb x 32 e) (ap (closed s kind number) h)
+  pub space-on : x ≡ 32 → {d : Digits} → d ≡ smallAt s (p + 1) → bracketed s kind number d ≡ positioned s kind (Got number p)
+  space-on e h = rw (← ex, eq-eqb x 32 e) (ap (bracketed s kind number) h)
 
 -- The ways out of an operator, by the letter k.
 module _ (s : List ℕ) (at k kind : ℕ) (ek : k ≡ getD s (at + 1) 0) (kk : kind ≡ kindOf k) where

@@ -17,7 +17,7 @@ use Rattle.lines.specs.declared.Digits.{Digits}
 use Rattle.lines.specs.declared.Digits.the-variants.{Got, No}
 use Rattle.lines.specs.declared.Line.{Line}
 use Rattle.lines.specs.declared.Line.the-variants.{Op, Comment, Shape}
-use Rattle.lines.specs.Places.{shortestLine, smallAt, closed, positioned, kindOf, operatorAt, feedAt, lineAt}
+use Rattle.lines.specs.Places.{shortestLine, smallAt, bracketed, positioned, kindOf, operatorAt, feedAt, lineAt}
 use Rattle.laws.specs.Steps.{kindStep, kindOperator}
 use Rattle.lines.specs.Lines.{Fed, Whole, IsLine}
 use Rattle.lines.proofs.LineLaws.{digit-range, small-none, small-one, small-zero, small-two, small-three, line-kind, after-kind, at-operator, at-other, at-comment}
@@ -142,7 +142,7 @@ agreed s rest at {c} {d} {l} {m} f g h =
 module _ (s rest : List ℕ) (at kind : ℕ) (k : kind ≤ 1) where
   -- The bytes after a position.
   bracket-read : (number i q : ℕ) (cs : List ℕ) → at + 5 ≤ q → Ahead s rest q cs → T (noFeed cs)
-      → Agrees s rest at (closed s kind number (Got i q)) (ending (kindStep kind number) i cs)
+      → Agrees s rest at (bracketed s kind number (Got i q)) (ending (kindStep kind number) i cs)
   bracket-read number i q [] lq h n = agreed s rest at (rw (← byte-at s rest q [] h)) refl shapes
   bracket-read number i q (c ∷ []) lq h n = go (eqb c 41) refl
     where
@@ -152,7 +152,7 @@ module _ (s rest : List ℕ) (at kind : ℕ) (k : kind ≤ 1) where
       beyond : drop (q + 2) s ≡ rest
       beyond = let o : q + 2 ≡ q + 1 + 0 + 1 = omega arith in ap (λ (m : ℕ). drop m s) o ∙ rest-at s rest (q + 1) [] on
 
-      go : (x : Bool) → eqb c 41 ≡ x → Agrees s rest at (closed s kind number (Got i q)) (ending (kindStep kind number) i (c ∷ []))
+      go : (x : Bool) → eqb c 41 ≡ x → Agrees s rest at (bracketed s kind number (Got i q)) (ending (kindStep kind number) i (c ∷ []))
       go true e =
           agreed s rest at
           (rw (← byte-at s rest q (c ∷ []) h, e, ← byte-at s rest (q + 1) [] on))
@@ -167,14 +167,14 @@ module _ (s rest : List ℕ) (at kind : ℕ) (k : kind ≤ 1) where
       other-byte : d ≢ 10
       other-byte = not-feed d (and-l (not (eqb d 10)) (noFeed cs) (and-r (not (eqb c 10)) (noFeed (d ∷ cs)) n))
 
-      go : (x : Bool) → eqb c 41 ≡ x → Agrees s rest at (closed s kind number (Got i q)) other
+      go : (x : Bool) → eqb c 41 ≡ x → Agrees s rest at (bracketed s kind number (Got i q)) other
       go true e =
           agreed s rest at
           (rw (← byte-at s rest q (c ∷ d ∷ cs) h, e, ← byte-at s rest (q + 1) (d ∷ cs) on, ne-eqb d 10 other-byte)) refl shapes
       go false e = agreed s rest at (rw (← byte-at s rest q (c ∷ d ∷ cs) h, e)) refl shapes
 
   position-read : (number p : ℕ) {d : Digits} {e : plans.Digits} → at + 4 ≤ p → Alike s rest p d e
-      → Agrees s rest at (closed s kind number d) (position (kindStep kind number) e)
+      → Agrees s rest at (bracketed s kind number d) (position (kindStep kind number) e)
   position-read number p lp neither = shapes
   position-read number p lp (zero-led d [] h) = rw (ne-eqb d 41 (not-digit d 41 h refl)) shapes
   position-read number p lp (zero-led d (b ∷ cs) h) = shapes

@@ -27,13 +27,13 @@ smallAt s at =
     No
 
 -- A closing bracket and a line feed.
-abbrev pub closed : List ℕ → ℕ → ℕ → Digits → Line
-closed s kind number No = Shape
-closed s kind number (Got pos q) = cond (eqb (getD s q 0) 41) (cond (eqb (getD s (q + 1) 0) 10) (Op kind number pos (q + 2)) Shape) Shape
+abbrev pub bracketed : List ℕ → ℕ → ℕ → Digits → Line
+bracketed s kind number No = Shape
+bracketed s kind number (Got pos q) = cond (eqb (getD s q 0) 41) (cond (eqb (getD s (q + 1) 0) 10) (Op kind number pos (q + 2)) Shape) Shape
 
 abbrev pub positioned : List ℕ → ℕ → Digits → Line
 positioned s kind No = Shape
-positioned s kind (Got number p) = cond (eqb (getD s p 0) 32) (closed s kind number (smallAt s (p + 1))) Shape
+positioned s kind (Got number p) = cond (eqb (getD s p 0) 32) (bracketed s kind number (smallAt s (p + 1))) Shape
 
 -- 0 for an action, 1 for a method, 2 for neither.
 abbrev pub kindOf : ℕ → ℕ

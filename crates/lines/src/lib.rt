@@ -4,7 +4,7 @@ ghost use Prim.Native.Nat.{_+_, _<_};
 ghost use lib.Dec.{eqb};
 ghost use lib.ListN.{length, getD, drop};
 ghost use Rattle.rules.specs.Plans.{isDigit};
-ghost use Rattle.lines.specs.Places.{smallAt, closed, positioned, operatorAt, kindOf, feedAt};
+ghost use Rattle.lines.specs.Places.{smallAt, bracketed, positioned, operatorAt, kindOf, feedAt};
 ghost use Rattle.lines.specs.Lines.{Fed, Whole, IsLine};
 ghost use Rattle.lines.specs.declared.Digits.the-variants.{Got};
 
@@ -83,7 +83,7 @@ fn kind_of(k: u64) -> u64
 // The closing bracket and the line's end, after the position.
 fn close(s: &[u8], kind: u64, number: u64, pos: u64, at: usize) -> Line
     requires { ⌜ Fed (now s) at ⌝ }
-    ensures { λ r. ⌜ r ≡ closed (now (s .entry)) kind number (Got pos at) ⌝ }
+    ensures { λ r. ⌜ r ≡ bracketed (now (s .entry)) kind number (Got pos at) ⌝ }
 {
     let bracket = wide(s[at]);
     if bracket != 41 {

@@ -13,9 +13,9 @@ use Rattle.listing.specs.declared.Says.{Says}
 use Rattle.listing.specs.declared.Says.the-variants.{Holds, Changes}
 
 -- Of one fact.
-abbrev pub lineOf : Says → ℕ → List ℕ
-lineOf Holds k = spellSetting (set k 0)
-lineOf (Changes needs dels) k = spellEffect (factEffect (setOf needs) (setOf dels) k)
+abbrev pub factLine : Says → ℕ → List ℕ
+factLine Holds k = spellSetting (set k 0)
+factLine (Changes needs dels) k = spellEffect (factEffect (setOf needs) (setOf dels) k)
 
 -- Of the facts of a set, of n facts in all; and of fact k alone, where the set has it.
 abbrev pub holdText : ℕ → ℕ → List ℕ
@@ -29,7 +29,7 @@ listText Holds n s = holdText n s
 listText (Changes needs dels) n s = changeText (setOf needs) (setOf dels) n s
 
 unfoldable pub lineWhere : Says → ℕ → ℕ → List ℕ
-lineWhere says s k = cond (has s k) (lineOf says k) []
+lineWhere says s k = cond (has s k) (factLine says k) []
 
 -- No line and no list is longer.
 abbrev pub holdBytes : ℕ
@@ -46,8 +46,8 @@ abbrev pub listBytes : Says → ℕ
 listBytes says = lineBytes says * mostFacts
 
 -- The value before and the value after, as a line has them.
-abbrev pub before : Bool → List ℕ
-before needed = cond needed (bytes " 0 ") (bytes " -1 ")
+abbrev pub beforeBytes : Bool → List ℕ
+beforeBytes needed = cond needed (bytes " 0 ") (bytes " -1 ")
 
-abbrev pub after : Bool → List ℕ
-after deleted = cond deleted (bytes "1\n") (bytes "0\n")
+abbrev pub afterBytes : Bool → List ℕ
+afterBytes deleted = cond deleted (bytes "1\n") (bytes "0\n")

@@ -7,7 +7,7 @@ ghost use Rattle.rules.specs.Limits.{mostFacts};
 ghost use Rattle.rules.specs.Problems.{set as Problems·set, factEffect};
 ghost use Rattle.facts.specs.Sets.{setOf};
 ghost use Rattle.text.specs.Appends.{Appends};
-ghost use Rattle.listing.specs.Listings.{before, after, lineWhere, listText, lineBytes, listBytes};
+ghost use Rattle.listing.specs.Listings.{beforeBytes, afterBytes, lineWhere, listText, lineBytes, listBytes};
 use facts::Set;
 
 // What a list says of each of its facts: that it holds, or how it changes, by the facts that are needed and those that are deleted.
@@ -29,7 +29,7 @@ fn put_holds(out: &mut [u8], at: usize, k: u64) -> usize
 // The value before: a needed fact holds, of any other nothing is said.
 fn put_before(out: &mut [u8], at: usize, needed: bool) -> usize
     requires { ⌜ at + 4 ≤ length (now out) ⌝ }
-    ensures { λ r. ⌜ Appends (now (out .entry)) at (before needed) (now (out .exit)) r ⌝ }
+    ensures { λ r. ⌜ Appends (now (out .entry)) at (beforeBytes needed) (now (out .exit)) r ⌝ }
     ensures { λ r. ⌜ r ≤ at + 4 ⌝ }
 {
     if needed {
@@ -41,7 +41,7 @@ fn put_before(out: &mut [u8], at: usize, needed: bool) -> usize
 // The value after: a deleted fact no longer holds, an added one does.
 fn put_after(out: &mut [u8], at: usize, deleted: bool) -> usize
     requires { ⌜ at + 2 ≤ length (now out) ⌝ }
-    ensures { λ r. ⌜ Appends (now (out .entry)) at (after deleted) (now (out .exit)) r ⌝ }
+    ensures { λ r. ⌜ Appends (now (out .entry)) at (afterBytes deleted) (now (out .exit)) r ⌝ }
     ensures { λ r. ⌜ r ≤ at + 2 ⌝ }
 {
     if deleted {

@@ -11,16 +11,16 @@ use lib.Dec.{eqb, lit<}
 use lib.ListN.{length, drop, getD}
 use lib.Seq.{slice, slice-cons}
 use Rattle.rules.specs.Reasons.{badNumber}
-use Rattle.rules.specs.Numbers.{run, spell, sound, readNumber}
+use Rattle.rules.specs.Numbers.{run, groupsValue, sound, readNumber}
 use Rattle.basics.specs.Readings.{got, bad}
 use Rattle.laws.proofs.NumberLaws.{run-stop, run-more, spell-one, number-got, number-long}
 
--- The first j groups of the number at a place have the top bit set and spell v; p is 128 ^ j.
+-- The first j groups of the number at a place have the top bit set and stand for v; p is 128 ^ j.
 pub record Begun (s : List ℕ) (at j p v : ℕ) : Type 0 where
   pub power : p ≡ 128 ^ j
   pub small : v < p
   pub more : at + run (drop at s) ≡ at + j + run (drop (at + j) s)
-  pub spelt : (e : ℕ) → at + j ≤ e → e ≤ length s → spell (slice at e s) ≡ v + p * spell (slice (at + j) e s)
+  pub spelt : (e : ℕ) → at + j ≤ e → e ≤ length s → groupsValue (slice at e s) ≡ v + p * groupsValue (slice (at + j) e s)
 
 pub begun : (s : List ℕ) (at : ℕ) → Begun s at 0 1 0
 begun s at =
@@ -29,7 +29,7 @@ begun s at =
       power = refl;
       small = omega arith;
       more = ap (λ (n : ℕ). n + run (drop n s)) (sym z);
-      spelt = λ e _ _. omega (arith, ap (λ (n : ℕ). spell (slice n e s)) z);
+      spelt = λ e _ _. omega (arith, ap (λ (n : ℕ). groupsValue (slice n e s)) z);
     }
 
 split : (v p g t : ℕ) → v + p * (g + 128 * t) ≡ v + g * p + p * 128 * t
@@ -60,7 +60,7 @@ sound-last = refl
 
 module _ {s : List ℕ} {at j p v : ℕ} (b : Begun s at j p v) (h : at + j < length s) where
   pub group-more : 128 ≤ getD s (at + j) 0 → Begun s at (j + 1) (p * 128) (v + getD s (at + j) 0 % 128 * p)
-  unfolding spell
+  unfolding groupsValue
   group-more k =
       let x : at + j + 1 ≡ at + (j + 1) = omega arith in
       let y : suc (at + j) ≡ at + (j + 1) = omega arith in
@@ -71,9 +71,9 @@ module _ {s : List ℕ} {at j p v : ℕ} (b : Begun s at j p v) (h : at + j < le
         spelt =
             λ e l m.
             b .spelt e (omega arith) m
-            ∙ ap (λ (t : ℕ). v + p * t) (ap spell (slice-cons (at + j) e s 0 (omega arith) m))
-            ∙ split v p (getD s (at + j) 0 % 128) (spell (slice (suc (at + j)) e s))
-            ∙ ap (λ (n : ℕ). v + getD s (at + j) 0 % 128 * p + p * 128 * spell (slice n e s)) y;
+            ∙ ap (λ (t : ℕ). v + p * t) (ap groupsValue (slice-cons (at + j) e s 0 (omega arith) m))
+            ∙ split v p (getD s (at + j) 0 % 128) (groupsValue (slice (suc (at + j)) e s))
+            ∙ ap (λ (n : ℕ). v + getD s (at + j) 0 % 128 * p + p * 128 * groupsValue (slice n e s)) y;
       }
 
   module _ (k : getD s (at + j) 0 < 128) where

@@ -3,7 +3,7 @@ ghost use mathlib.Core.Path.{_≡_};
 ghost use Prim.Native.Nat.{_+_, _-_, _*_, _^_, _≤_, _<_};
 ghost use lib.ListN.{length, drop, getD};
 ghost use lib.Seq.{slice};
-ghost use Rattle.rules.specs.Numbers.{run, spell, sound, readNumber, ranged};
+ghost use Rattle.rules.specs.Numbers.{run, groupsValue, sound, readNumber, ranged};
 ghost use Rattle.rules.specs.Reasons.{notThere};
 ghost use Rattle.numbers.specs.Answers.{numOf};
 use rules::reasons::BAD_NUMBER;
@@ -55,10 +55,10 @@ fn shortest(k: usize, b: u64) -> bool
     false
 }
 
-// What the groups from `at` to `e` spell.
+// What the groups from `at` to `e` stand for.
 fn value(s: &[u8], at: usize, e: usize) -> u64
     requires { ⌜ (at ≤ e) × (e < length (now s)) × (getD (now s) e 0 < 128) × (e - at ≤ 9) × (getD (now s) e 0 < 2 * 128 ^ (9 - (e - at))) ⌝ }
-    ensures { λ r. ⌜ r ≡ spell (slice at (e + 1) (now (s .entry))) ⌝ }
+    ensures { λ r. ⌜ r ≡ groupsValue (slice at (e + 1) (now (s .entry))) ⌝ }
 {
     let mut v = wide(s[e]);
     let mut i = e;

@@ -12,6 +12,6 @@ wordRoom = 21
 abbrev pub lineRoom : ℕ
 lineRoom = 80
 
-unfoldable pub lineOf : Answer Tally → List ℕ
-lineOf (answer y) = line (bytes "accepted" ∷ digits (y .cost) ∷ digits (y .operators) ∷ digits (y .steps) ∷ [])
-lineOf (refusal number place) = line (bytes "refused" ∷ digits number ∷ digits place ∷ [])
+unfoldable pub reportLine : Answer Tally → List ℕ
+reportLine (answer y) = line (bytes "accepted" ∷ digits (y .cost) ∷ digits (y .operators) ∷ digits (y .steps) ∷ [])
+reportLine (refusal number place) = line (bytes "refused" ∷ digits number ∷ digits place ∷ [])

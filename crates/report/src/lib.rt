@@ -7,7 +7,7 @@ ghost use Rattle.basics.specs.Answers.{refusal};
 ghost use Rattle.rules.specs.Checks.{accepted as Checks·accepted};
 ghost use Rattle.basics.specs.Texts.{digits};
 ghost use Rattle.text.specs.Appends.{Appends};
-ghost use Rattle.report.specs.Reports.{wordRoom, lineRoom, lineOf};
+ghost use Rattle.report.specs.Reports.{wordRoom, lineRoom, reportLine};
 use libc::STDOUT_FILENO;
 
 // Room for a line. The contracts say it by the name of specs/Reports.
@@ -47,7 +47,7 @@ fn put_word(out: &mut [u8], at: usize, n: u64) -> usize
 
 pub fn accepted(out: &mut [u8], cost: u64, operators: u64, steps: u64) -> usize
     requires { ⌜ lineRoom ≤ length (now out) ⌝ }
-    ensures { λ r. ⌜ Appends (now (out .entry)) 0 (lineOf (Checks·accepted cost operators steps)) (now (out .exit)) r ⌝ }
+    ensures { λ r. ⌜ Appends (now (out .entry)) 0 (reportLine (Checks·accepted cost operators steps)) (now (out .exit)) r ⌝ }
     ensures { λ r. ⌜ r ≤ lineRoom ⌝ }
 {
     let first = text::put(out, 0, b"accepted");
@@ -59,7 +59,7 @@ pub fn accepted(out: &mut [u8], cost: u64, operators: u64, steps: u64) -> usize
 
 pub fn refused(out: &mut [u8], number: u64, place: u64) -> usize
     requires { ⌜ lineRoom ≤ length (now out) ⌝ }
-    ensures { λ r. ⌜ Appends (now (out .entry)) 0 (lineOf (refusal number place)) (now (out .exit)) r ⌝ }
+    ensures { λ r. ⌜ Appends (now (out .entry)) 0 (reportLine (refusal number place)) (now (out .exit)) r ⌝ }
     ensures { λ r. ⌜ r ≤ lineRoom ⌝ }
 {
     let first = text::put(out, 0, b"refused");

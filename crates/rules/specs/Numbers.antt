@@ -13,10 +13,10 @@ unfoldable pub run : List ℕ → ℕ
 run [] = 0
 run (b ∷ bs) = cond (ltb b 128) 0 (suc (run bs))
 
--- "groups of seven bits, lowest group first": what they spell.
-unfoldable pub spell : List ℕ → ℕ
-spell [] = 0
-spell (b ∷ bs) = b % 128 + 128 * spell bs
+-- "groups of seven bits, lowest group first": what they stand for.
+unfoldable pub groupsValue : List ℕ → ℕ
+groupsValue [] = 0
+groupsValue (b ∷ bs) = b % 128 + 128 * groupsValue bs
 
 -- "shortest form only, at most 64 bits (so at most ten groups, the tenth at most 1)": may the last group b stand after k others?
 unfoldable pub sound : ℕ → ℕ → Bool
@@ -27,7 +27,7 @@ sound k b = cond (eqb k 0) true (cond (eqb b 0) false (cond (ltb k 9) true (cond
 unfoldable pub numberAt : List ℕ → ℕ → ℕ → Reading ℕ
 numberAt s at k =
     cond (ltb (at + k) (length s))
-    (cond (sound k (getD s (at + k) 0)) (got (spell (slice at (at + k + 1) s)) (at + k + 1)) (bad badNumber at))
+    (cond (sound k (getD s (at + k) 0)) (got (groupsValue (slice at (at + k + 1) s)) (at + k + 1)) (bad badNumber at))
     (bad tableEnds at)
 
 abbrev pub readNumber : List ℕ → ℕ → Reading ℕ

@@ -21,7 +21,7 @@ use Rattle.laws.proofs.SectionLaws.{section-first, section-variable, section-mi
 use Rattle.problem.specs.Places.{IsPlace}
 use Rattle.text.specs.Appends.{Appends}
 use Rattle.section.specs.Chosen.{Begins}
-use Rattle.section.specs.Operators.{stepOperator}
+use Rattle.section.specs.Operators.{operatorTextAt}
 
 module _ (b f : ℕ) (t : Table) (k : ℕ) where
   here : (m : ℕ) {x : List ℕ} → k ≡ m → m < length (sectionsOf b f t) → getD (sectionsOf b f t) m [] ≡ x → chosen (sectionsOf b f t) k ≡ answer x
@@ -38,7 +38,7 @@ module _ (b f : ℕ) (t : Table) (k : ℕ) where
 
   -- n sections behind the middle.
   module _ (n : ℕ) (e : k ≡ variableCount b t + 2 + n) where
-    pub chosen-operator : (i p : ℕ) → IsPlace b f t n i p → chosen (sectionsOf b f t) k ≡ answer (stepOperator f t i p)
+    pub chosen-operator : (i p : ℕ) → IsPlace b f t n i p → chosen (sectionsOf b f t) k ≡ answer (operatorTextAt f t i p)
     chosen-operator i p h =
         let o : Operator = record { what = stepAt t i; at = suc p } in
         here (suc (suc (variableCount b t)) + n) (omega arith) (omega (arith, sections-length b f t, h .within))

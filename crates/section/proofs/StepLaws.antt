@@ -19,7 +19,7 @@ use Rattle.rows.specs.Sizes.{rowWords, rowCells}
 use Rattle.rows.specs.Rows.{Row, rowAt, rowOf}
 use Rattle.compose.specs.RowTexts.{Fit, rowText}
 use Rattle.section.specs.declared.Composed.{Composed}
-use Rattle.section.specs.Operators.{stepRow, stepOperator, IsComposed}
+use Rattle.section.specs.Operators.{rowTextAt, operatorTextAt, IsComposed}
 use Rattle.compose.proofs.FitLaws.{row-text, row-fit}
 
 -- What is asked of a row, for another number, in words of the code.
@@ -45,7 +45,7 @@ module _ (b f : ℕ) (t : Table) (i : ℕ) (ops cells : List ℕ) (e : rowAt ops
   pub step-count : rowAt ops cells 0 .last ≡ positions b f t (stepAt t i)
   step-count = ap (λ (r : Row). r .last) e
 
-  pub step-composed : {s lens offs : List ℕ} {pen : Pen} → Drawn s lens offs pen (stepRow t i (rowAt ops cells 0)) → Drawn s lens offs pen (stepOperator f t i)
+  pub step-composed : {s lens offs : List ℕ} {pen : Pen} → Drawn s lens offs pen (rowTextAt t i (rowAt ops cells 0)) → Drawn s lens offs pen (operatorTextAt f t i)
   step-composed d = drawn-is d (λ p. row-text b f t (stepAt t i) ops cells p e)
 
 module _ {b f : ℕ} {t : Table} {i : ℕ} {s lens offs : List ℕ} {r : Composed} (c : IsComposed b f t i s lens offs r) where
@@ -55,5 +55,5 @@ module _ {b f : ℕ} {t : Table} {i : ℕ} {s lens offs : List ℕ} {r : Compose
   pub step-drawn : stepText b f t i ≡ upto (rendered s lens offs (r .pen)) (r .count)
   unfolding stepText
   step-drawn =
-      ap (upto (stepOperator f t i)) (sym (c .count))
-      ∙ upto-same (stepOperator f t i) (rendered s lens offs (r .pen)) (r .count) (λ p l. sym (c .drawn .text p))
+      ap (upto (operatorTextAt f t i)) (sym (c .count))
+      ∙ upto-same (operatorTextAt f t i) (rendered s lens offs (r .pen)) (r .count) (λ p l. sym (c .drawn .text p))

@@ -20,14 +20,14 @@ pub record Names (t : Table) (i : ℕ) (r : Label) : Type 0 where
   pub low : r .number ≤ i
 
 -- The operator of step i at the position p + 1: from a row, and as the document has it.
-abbrev pub stepRow : Table → ℕ → Row → ℕ → List ℕ
-stepRow t i r p = rowText (factCount t) (noTask t) (nameOf (stepAt t i)) r p
+abbrev pub rowTextAt : Table → ℕ → Row → ℕ → List ℕ
+rowTextAt t i r p = rowText (factCount t) (noTask t) (nameOf (stepAt t i)) r p
 
-abbrev pub stepOperator : ℕ → Table → ℕ → ℕ → List ℕ
-stepOperator f t i p = operatorText f t (record { what = stepAt t i; at = suc p })
+abbrev pub operatorTextAt : ℕ → Table → ℕ → ℕ → List ℕ
+operatorTextAt f t i p = operatorText f t (record { what = stepAt t i; at = suc p })
 
 -- The template says the operator of step i at each position.
 pub record IsComposed (b f : ℕ) (t : Table) (i : ℕ) (s lens offs : List ℕ) (r : Composed) : Type 0 where
-  pub drawn : Drawn s lens offs (r .pen) (stepOperator f t i)
+  pub drawn : Drawn s lens offs (r .pen) (operatorTextAt f t i)
   pub most : r .pen .at + 3 * r .pen .count ≤ operatorBytes
   pub count : r .count ≡ positions b f t (stepAt t i)

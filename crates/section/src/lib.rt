@@ -11,13 +11,13 @@ ghost use Rattle.rules.specs.Refusals.{chosen};
 ghost use Rattle.laws.specs.Steps.{stepAt, stepText};
 ghost use Rattle.words.specs.Words.{tableOf, Held};
 ghost use Rattle.text.specs.Appends.{Appends};
-ghost use Rattle.template.specs.Sizes.{margin, figureCount, operatorBytes, stepBytes};
+ghost use Rattle.template.specs.Sizes.{margin, figureCount, operatorBytes, stepTextBytes};
 ghost use Rattle.template.specs.Figures.{Figures};
 ghost use Rattle.template.specs.Templates.{Drawn, Blank};
 ghost use Rattle.rows.specs.Rows.{rowAt};
 ghost use Rattle.compose.specs.RowTexts.{Fit};
 ghost use Rattle.section.specs.Chosen.{Begins};
-ghost use Rattle.section.specs.Operators.{Names, stepRow, stepOperator, IsComposed};
+ghost use Rattle.section.specs.Operators.{Names, rowTextAt, operatorTextAt, IsComposed};
 use basics::Reply;
 use problem::Found;
 use rows::row;
@@ -63,7 +63,7 @@ fn compose_row(
 ) -> Pen
     requires { ⌜ Held (now words) × Fit (factCount (tableOf (now words))) (taskCount (tableOf (now words))) i (now ops) (now cells) ⌝ }
     requires { ⌜ Blank (now t) (now lens) (now offs) ⌝ }
-    ensures { λ r. ⌜ Drawn (now (t .exit)) (now (lens .exit)) (now (offs .exit)) r (stepRow (tableOf (now (words .entry))) i (rowAt (now (ops .entry)) (now (cells .entry)) 0)) ⌝ }
+    ensures { λ r. ⌜ Drawn (now (t .exit)) (now (lens .exit)) (now (offs .exit)) r (rowTextAt (tableOf (now (words .entry))) i (rowAt (now (ops .entry)) (now (cells .entry)) 0)) ⌝ }
     ensures { λ r. ⌜ (r .at + 3 * r .count ≤ operatorBytes) × (length (now (t .exit)) ≡ length (now (t .entry))) ⌝ }
 {
     let top = words::fact_count(words);
@@ -121,9 +121,9 @@ pub fn put_operators(
     at: usize,
 ) -> usize
     requires { ⌜ Held (now words) × (bound ≤ mostBound) × (i < actionCount (tableOf (now words)) + methodCount (tableOf (now words))) ⌝ }
-    requires { ⌜ Figures (now figures) figureCount × (at + stepBytes + margin ≤ length (now out)) ⌝ }
+    requires { ⌜ Figures (now figures) figureCount × (at + stepTextBytes + margin ≤ length (now out)) ⌝ }
     ensures { λ r. ⌜ Appends (now (out .entry)) at (stepText bound form (tableOf (now (words .entry))) i) (now (out .exit)) r ⌝ }
-    ensures { λ r. ⌜ r ≤ at + stepBytes ⌝ }
+    ensures { λ r. ⌜ r ≤ at + stepTextBytes ⌝ }
 {
     let mut t = [0u8; TEMPLATE_BYTES];
     let mut lens = [0usize; MOST_NUMBERS];
@@ -137,7 +137,7 @@ pub fn put_operators(
 fn put_operator(words: &[u64], bound: u64, form: u64, i: usize, p: usize, space: &mut [u8]) -> usize
     requires { ⌜ Held (now words) × (bound ≤ mostBound) × (i < actionCount (tableOf (now words)) + methodCount (tableOf (now words))) ⌝ }
     requires { ⌜ (p < positions bound form (tableOf (now words)) (stepAt (tableOf (now words)) i)) × (mostSectionBytes ≤ length (now space)) ⌝ }
-    ensures { λ r. ⌜ Appends (now (space .entry)) 0 (stepOperator form (tableOf (now (words .entry))) i p) (now (space .exit)) r ⌝ }
+    ensures { λ r. ⌜ Appends (now (space .entry)) 0 (operatorTextAt form (tableOf (now (words .entry))) i p) (now (space .exit)) r ⌝ }
     ensures { λ r. ⌜ r ≤ mostSectionBytes ⌝ }
 {
     let mut figures = [0u8; FIGURE_BYTES];

@@ -15,7 +15,7 @@ use Rattle.text.specs.Appends.{Appends}
 use Rattle.text.proofs.AppendLaws.{_▸_, appends-is, drop-take}
 use Rattle.template.specs.declared.Pen.{Pen}
 use Rattle.template.specs.Sizes.{mostOffset}
-use Rattle.template.specs.Templates.{Sound, Drawn, startOf, turn, rendered}
+use Rattle.template.specs.Templates.{PenStands, Drawn, startOf, turn, rendered}
 
 ends : (lens : List ℕ) (c j : ℕ) → j < c → startOf lens j + getD lens j 0 ≤ startOf lens c
 unfolding sumTo
@@ -26,7 +26,7 @@ ends lens (suc c) j h =
       | no p ↦ let e : j ≡ c = omega arith in rw e (le-refl (startOf lens c + getD lens c 0))
     ]
 
-module _ {t lens offs : List ℕ} {pen : Pen} (s : Sound t lens offs pen) where
+module _ {t lens offs : List ℕ} {pen : Pen} (s : PenStands t lens offs pen) where
   -- Each segment ends where the pen stands, or before.
   pub segment-ends : (j : ℕ) → j < pen .count → startOf lens j + getD lens j 0 ≤ pen .at
   segment-ends j h = omega (arith, ends lens (pen .count) j h, s .start, s .reach)

@@ -30,5 +30,5 @@ operatorBytes = 1408
 abbrev pub templateBytes : ℕ
 templateBytes = operatorBytes + margin
 
-abbrev pub stepBytes : ℕ
-stepBytes = operatorBytes * mostBound
+abbrev pub stepTextBytes : ℕ
+stepTextBytes = operatorBytes * mostBound

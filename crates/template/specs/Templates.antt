@@ -22,7 +22,7 @@ unfoldable pub rendered : List ℕ → List ℕ → List ℕ → Pen → ℕ →
 rendered t lens offs pen p = upto (turn t lens offs p) (pen .count) ++ take (pen .at - pen .from) (drop (pen .from) t)
 
 -- Where the pen stands: after so many numbers, in a segment that begins at `from`.
-pub record Sound (t lens offs : List ℕ) (pen : Pen) : Type 0 where
+pub record PenStands (t lens offs : List ℕ) (pen : Pen) : Type 0 where
   pub start : pen .from ≡ startOf lens (pen .count)
   pub reach : pen .from ≤ pen .at
   pub fits : pen .at ≤ length t
@@ -32,7 +32,7 @@ pub record Sound (t lens offs : List ℕ) (pen : Pen) : Type 0 where
 
 -- What has been drawn says x p at each position p.
 pub record Drawn (t lens offs : List ℕ) (pen : Pen) (x : ℕ → List ℕ) : Type 0 where
-  pub sound : Sound t lens offs pen
+  pub sound : PenStands t lens offs pen
   pub text : (p : ℕ) → rendered t lens offs pen p ≡ x p
 
 -- Memory for a template: for its text, and for the lengths and offsets of its numbers.

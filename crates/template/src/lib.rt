@@ -10,7 +10,7 @@ ghost use Rattle.rules.specs.Limits.{mostBound};
 ghost use Rattle.text.specs.Appends.{Appends};
 ghost use Rattle.template.specs.Sizes.{chunk, margin, mostOffset, figureCount, figureBytes, operatorBytes};
 ghost use Rattle.template.specs.Figures.{Figures, figure};
-ghost use Rattle.template.specs.Templates.{Sound, Drawn, rendered};
+ghost use Rattle.template.specs.Templates.{PenStands, Drawn, rendered};
 use rules::limits::MOST_BOUND;
 
 // Sizes, with the names that specs/Sizes has for them.
@@ -162,7 +162,7 @@ pub fn put_rendered(
     pen: Pen,
     p: usize,
 ) -> usize
-    requires { ⌜ Sound (now t) (now lens) (now offs) pen × (pen .at + margin ≤ length (now t)) × (p < mostBound) × Figures (now figures) figureCount ⌝ }
+    requires { ⌜ PenStands (now t) (now lens) (now offs) pen × (pen .at + margin ≤ length (now t)) × (p < mostBound) × Figures (now figures) figureCount ⌝ }
     requires { ⌜ at + pen .at + 3 * pen .count + margin ≤ length (now out) ⌝ }
     ensures { λ r. ⌜ Appends (now (out .entry)) at (rendered (now (t .entry)) (now (lens .entry)) (now (offs .entry)) pen p) (now (out .exit)) r ⌝ }
     ensures { λ r. ⌜ r ≤ at + pen .at + 3 * pen .count ⌝ }
@@ -191,7 +191,7 @@ pub fn put_positions(
     pen: Pen,
     n: usize,
 ) -> usize
-    requires { ⌜ Sound (now t) (now lens) (now offs) pen × (pen .at + margin ≤ length (now t)) × Figures (now figures) figureCount ⌝ }
+    requires { ⌜ PenStands (now t) (now lens) (now offs) pen × (pen .at + margin ≤ length (now t)) × Figures (now figures) figureCount ⌝ }
     requires { ⌜ (pen .at + 3 * pen .count ≤ operatorBytes) × (n ≤ mostBound) × (at + operatorBytes * n + margin ≤ length (now out)) ⌝ }
     ensures { λ r. ⌜ Appends (now (out .entry)) at (upto (rendered (now (t .entry)) (now (lens .entry)) (now (offs .entry)) pen) n) (now (out .exit)) r ⌝ }
     ensures { λ r. ⌜ r ≤ at + operatorBytes * n ⌝ }

@@ -4,7 +4,7 @@ ghost use mathlib.Core.Path.{_≡_};
 ghost use lib.ListN.{length};
 ghost use Rattle.rules.specs.Checks.{verdictOf};
 ghost use Rattle.text.specs.Appends.{Appends};
-ghost use Rattle.report.specs.Reports.{lineRoom, lineOf};
+ghost use Rattle.report.specs.Reports.{lineRoom, reportLine};
 ghost use Rattle.verifying.specs.Input.{checkInput};
 use rules::Verdict;
 
@@ -23,7 +23,7 @@ pub fn judge(input: &[u8]) {
 // The line that says what the check of the input comes to.
 fn put_verdict(line: &mut [u8], input: &[u8]) -> usize
     requires { ⌜ lineRoom ≤ length (now line) ⌝ }
-    ensures { λ r. ⌜ Appends (now (line .entry)) 0 (lineOf (checkInput (now (input .entry)))) (now (line .exit)) r ⌝ }
+    ensures { λ r. ⌜ Appends (now (line .entry)) 0 (reportLine (checkInput (now (input .entry)))) (now (line .exit)) r ⌝ }
     ensures { λ r. ⌜ r ≤ lineRoom ⌝ }
 {
     match decide(input) {

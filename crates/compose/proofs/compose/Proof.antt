@@ -33,8 +33,8 @@ bottom-of-requires c κs =
     let f = c .before .before .before .before .before .before .before .before .before .before .before .pre .0 in
     (f .none, f .left)
 
-opening-requires : tie.Need-opening-requires
-opening-requires c κs =
+put-name-requires : tie.Need-put-name-requires
+put-name-requires c κs =
     let s = c .before .before .before .before .before .before .before .before .before .before .before .before .before .before .before in
     (room-less (room-all 0 0 0 [] (omega arith) (s .pre .1)) (omega arith) (omega arith), s .pre .0 .number)
 
@@ -48,7 +48,7 @@ prevails-requires c κs =
     let stay = b .before .left in
     let room = room-all (stay .result) (b .before .before .task .result) (b .bottom-of .result) rest (f .left .held .few) (s .pre .1) in
     let task = b .before .before .task .ensures in
-    (room-after room (o .opening .ensures) (omega arith) (omega arith), f .facts, omega (arith, task, f .row .task))
+    (room-after room (o .put-name .ensures) (omega arith) (omega arith), f .facts, omega (arith, task, f .row .task))
 
 effects-requires : tie.Need-effects-requires
 effects-requires c κs =
@@ -61,7 +61,7 @@ effects-requires c κs =
     let stay = b .before .left in
     let room = room-all (stay .result) (b .before .before .task .result) (b .bottom-of .result) rest (f .left .held .few) (s .pre .1) in
     let task = b .before .before .task .ensures in (
-      room-after room (o .opening .ensures ▹ p .prevails .ensures) (omega arith) (omega arith),
+      room-after room (o .put-name .ensures ▹ p .prevails .ensures) (omega arith) (omega arith),
       f .facts,
       omega (arith, task, f .row .task),
       b .bottom-of .ensures .1,
@@ -79,16 +79,16 @@ pushes-requires c κs =
     let rest = rowAt (s .args .ops .now) (s .args .cells .now) 0 .rest in
     let stay = b .before .left in
     let room = room-all (stay .result) (b .before .before .task .result) (b .bottom-of .result) rest (f .left .held .few) (s .pre .1) in
-    (room-after room (o .opening .ensures ▹ p .prevails .ensures ▹ e .effects .ensures) (omega arith) (omega arith), f .facts, f .left)
+    (room-after room (o .put-name .ensures ▹ p .prevails .ensures ▹ e .effects .ensures) (omega arith) (omega arith), f .facts, f .left)
 
-ending-requires : tie.Need-ending-requires
-ending-requires c κs =
+put-cost-requires : tie.Need-put-cost-requires
+put-cost-requires c κs =
     let h = c .before .before .before .before .before .before .before in
     let e = h .before .before .before .before .before .before .before .before .before .before in
     let p = e .before .before .before .before .before .before .before .before .before .before in
     let o = p .before .before .before .before .before .before .before .before .before .before in
     let s = o .before .before .before .before .before .before .before .before .before .before .before .before .before .before .before .before in
-    space-after (room-all 0 0 0 [] (omega arith) (s .pre .1) .space) (o .opening .ensures ▹ p .prevails .ensures ▹ e .effects .ensures ▹ h .pushes .ensures) (omega arith)
+    space-after (room-all 0 0 0 [] (omega arith) (s .pre .1) .space) (o .put-name .ensures ▹ p .prevails .ensures ▹ e .effects .ensures ▹ h .pushes .ensures) (omega arith)
 
 same-length : tie.Need-same-length
 same-length c =
@@ -96,7 +96,7 @@ same-length c =
     let e = h .before .before .before .before .before .before .before .before .before .before in
     let p = e .before .before .before .before .before .before .before .before .before .before in
     let o = p .before .before .before .before .before .before .before .before .before .before in
-    (o .opening .ensures ▹ p .prevails .ensures ▹ e .effects .ensures ▹ h .pushes .ensures ▹ c .before .before .ending .ensures _ _) .size
+    (o .put-name .ensures ▹ p .prevails .ensures ▹ e .effects .ensures ▹ h .pushes .ensures ▹ c .before .before .put-cost .ensures _ _) .size
 
 same-length-2 : tie.Need-same-length-2
 same-length-2 c =
@@ -104,7 +104,7 @@ same-length-2 c =
     let e = h .before .before .before .before .before .before .before .before .before .before in
     let p = e .before .before .before .before .before .before .before .before .before .before in
     let o = p .before .before .before .before .before .before .before .before .before .before in
-    (o .opening .ensures ▹ p .prevails .ensures ▹ e .effects .ensures ▹ h .pushes .ensures) .lengths
+    (o .put-name .ensures ▹ p .prevails .ensures ▹ e .effects .ensures ▹ h .pushes .ensures) .lengths
 
 same-length-3 : tie.Need-same-length-3
 same-length-3 c =
@@ -112,7 +112,7 @@ same-length-3 c =
     let e = h .before .before .before .before .before .before .before .before .before .before in
     let p = e .before .before .before .before .before .before .before .before .before .before in
     let o = p .before .before .before .before .before .before .before .before .before .before in
-    (o .opening .ensures ▹ p .prevails .ensures ▹ e .effects .ensures ▹ h .pushes .ensures) .offsets
+    (o .put-name .ensures ▹ p .prevails .ensures ▹ e .effects .ensures ▹ h .pushes .ensures) .offsets
 
 returns : tie.Need-returns
 returns c =
@@ -125,7 +125,7 @@ returns c =
     let f = s .pre .0 in
     let a = s .args in
     let row = rowAt (a .ops .now) (a .cells .now) 0 in
-    let d = o .opening .ensures ▹ p .prevails .ensures ▹ e .effects .ensures ▹ h .pushes .ensures ▹ c .before .before .ending .ensures _ _ in
+    let d = o .put-name .ensures ▹ p .prevails .ensures ▹ e .effects .ensures ▹ h .pushes .ensures ▹ c .before .before .put-cost .ensures _ _ in
     let bottom = b .bottom-of in
     let stay = b .before in
     let task = stay .before in
@@ -151,11 +151,11 @@ compose-spec =
     task-requires
     left-requires
     bottom-of-requires
-    opening-requires
+    put-name-requires
     prevails-requires
     effects-requires
     pushes-requires
-    ending-requires
+    put-cost-requires
     same-length
     same-length-2
     same-length-3

@@ -6,7 +6,7 @@ use Prim.Native.Nat.{ℕ}
 use Rattle.text.proofs.AppendLaws.{appends-is, appends-none}
 use Rattle.listing.proofs.LineLaws.{line-there, line-missing}
 use Rattle.listing.specs.declared.Says.{Says}
-use Rattle.listing.specs.Listings.{lineBytes, lineOf}
+use Rattle.listing.specs.Listings.{lineBytes, factLine}
 use Rattle.listing.proofs.put_line.Statement.{statement}
 use Rattle.listing.proofs.put_line.Tie as tie
 
@@ -42,7 +42,7 @@ returns-2 c =
     let p = c .before .before in
     let a = p .before .before .before .before .before .before .before .args in
     let e = p .before .before .enum-told .given .1 in (
-      appends-is (line-there (a .says) (a .set .bits) (a .k) (sym (p .before .before .before .before .before .has .ensures) ∙ not-false _ (p .before .before .before .before .if1 .left)) ∙ ap (λ (s : Says). lineOf s (a .k)) e) (p .put-holds .ensures .0),
+      appends-is (line-there (a .says) (a .set .bits) (a .k) (sym (p .before .before .before .before .before .has .ensures) ∙ not-false _ (p .before .before .before .before .if1 .left)) ∙ ap (λ (s : Says). factLine s (a .k)) e) (p .put-holds .ensures .0),
       omega (arith, p .put-holds .ensures .1, ap lineBytes e),
     )
 
@@ -54,7 +54,7 @@ returns-3 c =
     let p = c .before .before in
     let a = p .before .before .before .before .before .before .before .before .args in
     let e = p .before .before .before .says .given .1 in (
-      appends-is (line-there (a .says) (a .set .bits) (a .k) (sym (p .before .before .before .before .before .before .has .ensures) ∙ not-false _ (p .before .before .before .before .before .if1 .left)) ∙ ap (λ (s : Says). lineOf s (a .k)) e) (p .put-change .ensures .0),
+      appends-is (line-there (a .says) (a .set .bits) (a .k) (sym (p .before .before .before .before .before .before .has .ensures) ∙ not-false _ (p .before .before .before .before .before .if1 .left)) ∙ ap (λ (s : Says). factLine s (a .k)) e) (p .put-change .ensures .0),
       omega (arith, p .put-change .ensures .1, ap lineBytes e),
     )
 

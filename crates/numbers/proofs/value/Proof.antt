@@ -3,14 +3,14 @@ use Prim.Native.Nat.{ℕ, suc, _%_, _≤_, _<_, _-_, _+_, _*_, _^_}
 use native.Mathlib.Omega.{arith}
 use lib.ListN.{length}
 use lib.Seq.{slice}
-use Rattle.rules.specs.Numbers.{spell}
+use Rattle.rules.specs.Numbers.{groupsValue}
 use Rattle.laws.proofs.NumberLaws.{spell-one, spell-prev, room, room-fits}
 use borrow.Author.Needs.{needs}
 use Rattle.numbers.proofs.value.Statement.{statement}
 use Rattle.numbers.proofs.value.Tie as tie
 
 abbrev Inv-loop : tie.InvT-loop
-Inv-loop s at e v₀ i₀ v i = (at ≤ i) × (i ≤ e) × (v ≡ spell (slice i (e + 1) s)) × (v < 2 * 128 ^ (9 - (i - at)))
+Inv-loop s at e v₀ i₀ v i = (at ≤ i) × (i ≤ e) × (v ≡ groupsValue (slice i (e + 1) s)) × (v < 2 * 128 ^ (9 - (i - at)))
 
 abbrev μ-loop : tie.MeasureT-loop
 μ-loop s at e v₀ i₀ v i = i
@@ -69,7 +69,7 @@ returns c =
     let l = c .before .loop in
     let a = c .before .before .before .before .before .args in
     let i : l .i ≡ a .at = omega arith in
-    l .inv .2 ∙ ap (λ (j : ℕ). spell (slice j (a .e + 1) (a .s .now))) i
+    l .inv .2 ∙ ap (λ (j : ℕ). groupsValue (slice j (a .e + 1) (a .s .now))) i
 
 pub value-spec : {M : Type 1} → statement M
 value-spec =

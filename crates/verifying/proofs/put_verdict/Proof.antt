@@ -1,7 +1,7 @@
 use mathlib.Core.Path.{sym, ap, _∙_}
 use Rattle.rules.specs.Checks.{verdictOf}
 use Rattle.text.proofs.AppendLaws.{appends-is}
-use Rattle.report.specs.Reports.{lineOf}
+use Rattle.report.specs.Reports.{reportLine}
 use borrow.Author.Needs.{needs}
 use Rattle.verifying.proofs.put_verdict.Statement.{statement}
 use Rattle.verifying.proofs.put_verdict.Tie as tie
@@ -28,7 +28,7 @@ returns : tie.Need-returns
 returns c =
     let p = c .before .before .accepted in
     let m = c .before .before .before .before .before in
-    (appends-is (ap lineOf (sym (m .before .before .decide .ensures) ∙ ap verdictOf (m .cost .given .1))) (p .ensures .0), p .ensures .1)
+    (appends-is (ap reportLine (sym (m .before .before .decide .ensures) ∙ ap verdictOf (m .cost .given .1))) (p .ensures .0), p .ensures .1)
 
 same-length-2 : tie.Need-same-length-2
 same-length-2 c = search needs
@@ -37,7 +37,7 @@ returns-2 : tie.Need-returns-2
 returns-2 c =
     let p = c .before .before .refused in
     let m = c .before .before .before .before .before in
-    (appends-is (ap lineOf (sym (m .before .before .decide .ensures) ∙ ap verdictOf (m .number .given .1))) (p .ensures .0), p .ensures .1)
+    (appends-is (ap reportLine (sym (m .before .before .decide .ensures) ∙ ap verdictOf (m .number .given .1))) (p .ensures .0), p .ensures .1)
 
 pub put-verdict-spec : {M : Type 1} → statement M
 put-verdict-spec =

@@ -2,9 +2,9 @@ use borrow.Author.Needs.{needs}
 use mathlib.Core.List.{[]}
 use native.Mathlib.Omega.{arith}
 use Rattle.drawing.proofs.DrawLaws.{_▹_, draws-is, space-less, space-after, room-after}
-use Rattle.compose.proofs.GroupLaws.{opening-words}
-use Rattle.compose.proofs.opening.Statement.{statement}
-use Rattle.compose.proofs.opening.Tie as tie
+use Rattle.compose.proofs.GroupLaws.{name-words}
+use Rattle.compose.proofs.put_name.Statement.{statement}
+use Rattle.compose.proofs.put_name.Tie as tie
 
 slice-aggregate-write : tie.Need-slice-aggregate-write
 slice-aggregate-write c = search needs
@@ -44,10 +44,10 @@ returns c =
     let f = m .before .before .before .before .before .before .before in
     let w = f .before .before .before .before .before in
     let a = w .before .before .before .before .before .before .args in
-    draws-is (omega arith) (omega arith) (opening-words (a .letter) (a .k)) (w .write .ensures _ _ ▹ f .field .ensures _ _ ▹ m .moving-line .ensures)
+    draws-is (omega arith) (omega arith) (name-words (a .letter) (a .k)) (w .write .ensures _ _ ▹ f .field .ensures _ _ ▹ m .moving-line .ensures)
 
-pub opening-spec : {M : Type 1} → statement M
-opening-spec =
+pub put-name-spec : {M : Type 1} → statement M
+put-name-spec =
     tie.close
     (tie.spec
     slice-aggregate-write

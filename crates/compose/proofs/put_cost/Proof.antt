@@ -2,9 +2,9 @@ use borrow.Author.Needs.{needs}
 use native.Mathlib.Omega.{arith}
 use Rattle.text.proofs.AppendLaws.{_▸_, appends-is}
 use Rattle.drawing.proofs.DrawLaws.{draws-text}
-use Rattle.compose.proofs.GroupLaws.{ending-words}
-use Rattle.compose.proofs.ending.Statement.{statement}
-use Rattle.compose.proofs.ending.Tie as tie
+use Rattle.compose.proofs.GroupLaws.{cost-words}
+use Rattle.compose.proofs.put_cost.Statement.{statement}
+use Rattle.compose.proofs.put_cost.Tie as tie
 
 put-number-requires : tie.Need-put-number-requires
 put-number-requires c κs = omega (arith, c .before .before .pre .bytes)
@@ -28,8 +28,8 @@ returns c =
     let s = t .before .before .before in
     let n = t .put-number .ensures in
     let e = p .put .ensures in
-    λ lens offs. draws-text (s .pre) (omega (arith, n .1, e .next)) (appends-is (ending-words (s .args .cost)) (n .0 ▸ e))
+    λ lens offs. draws-text (s .pre) (omega (arith, n .1, e .next)) (appends-is (cost-words (s .args .cost)) (n .0 ▸ e))
 
-pub ending-spec : {M : Type 1} → statement M
-ending-spec =
+pub put-cost-spec : {M : Type 1} → statement M
+put-cost-spec =
     tie.close (tie.spec put-number-requires slice-aggregate-put put-requires same-length returns)
