@@ -14,7 +14,7 @@ use Rattle.compose.specs.RowTexts.{rowText}
 use Rattle.section.specs.declared.Label.{Label}
 use Rattle.section.specs.declared.Composed.{Composed}
 
--- They are those of step i, and the number is no higher than the step's.
+-- The letter and the number of step i's name; the number is no higher than the step's.
 pub record Names (t : Table) (i : ℕ) (r : Label) : Type 0 where
   pub text : r .letter ∷ digits (r .number) ≡ nameOf (stepAt t i)
   pub low : r .number ≤ i
