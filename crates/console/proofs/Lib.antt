@@ -1,3 +1,2 @@
-mod TextAnswers
-mod SectionCallLaws
+mod LengthLaws
 pub mod Outcomes

@@ -1,40 +1,8 @@
 // Expand a plan into steps.
 ghost use mathlib.Core.Path.{_≡_};
-ghost use Prim.Native.Nat.{_*_};
 ghost use lib.ListN.{length};
-ghost use Rattle.basics.specs.Answers.{numberOf, placeOf, valueOf, after, replyOf, lengthOf};
-ghost use Rattle.rules.specs.Checks.{verdictOf};
-ghost use Rattle.rules.specs.Refusals.{roomOf, expandPlan, written};
-ghost use Rattle.run.specs.Runs.{Few};
-use basics::Reply;
-use rules::Verdict;
-
-// What a verdict says of the step list, two bytes a step, in so many bytes.
-fn reply_for(verdict: Verdict, size: u64) -> Reply
-    requires { ⌜ Few verdict ⌝ }
-    ensures { λ r. ⌜ replyOf r ≡ after (verdictOf verdict) (λ y. roomOf size 0 (2 * y .steps)) ⌝ }
-{
-    match verdict {
-        Verdict::Refused(number, place) => Reply::Refused(number, place),
-        Verdict::Accepted(_, _, count) => crate::rooms::room(2 * count, size, 0),
-    }
-}
-
-// The length of the step list, and nothing written.
-fn measure(bound: u64, form: u64, table: &[u8], plan: &[u8], size: usize) -> Reply
-    ensures { λ r. ⌜ replyOf r ≡ lengthOf (expandPlan bound form (now (table .entry)) (now (plan .entry)) size) ⌝ }
-{
-    reply_for(crate::plans::verdict(bound, form, table, plan), size as u64)
-}
-
-// The step list from the start of the bytes on, and its length.
-fn write(bound: u64, form: u64, table: &[u8], plan: &[u8], steps: &mut [u8]) -> Reply
-    ensures { λ r. ⌜ replyOf r ≡ lengthOf (expandPlan bound form (now (table .entry)) (now (plan .entry)) (length (now (steps .entry)))) ⌝ }
-    ensures { λ _. ⌜ now (steps .exit) ≡ written (now (steps .entry)) 0 (expandPlan bound form (now (table .entry)) (now (plan .entry)) (length (now (steps .entry)))) ⌝ }
-{
-    let size = steps.len() as u64;
-    reply_for(crate::judging::judge(bound, form, table, plan, steps), size)
-}
+ghost use Rattle.basics.specs.Answers.{numberOf, placeOf, valueOf};
+ghost use Rattle.rules.specs.Refusals.{expandPlan, written};
 
 #[no_mangle]
 pub extern "C" fn ildorzhen_expand_number(
@@ -46,7 +14,7 @@ pub extern "C" fn ildorzhen_expand_number(
 ) -> u64
     ensures { λ r. ⌜ r ≡ numberOf (expandPlan bound form (now (table .entry)) (now (plan .entry)) (length (now (steps .entry)))) ⌝ }
 {
-    crate::reply::number(measure(bound, form, table, plan, steps.len()))
+    crate::reply::number(entries::expanding::measure(bound, form, table, plan, steps.len()))
 }
 
 #[no_mangle]
@@ -59,7 +27,7 @@ pub extern "C" fn ildorzhen_expand_place(
 ) -> u64
     ensures { λ r. ⌜ r ≡ placeOf (expandPlan bound form (now (table .entry)) (now (plan .entry)) (length (now (steps .entry)))) ⌝ }
 {
-    crate::reply::place(measure(bound, form, table, plan, steps.len()))
+    crate::reply::place(entries::expanding::measure(bound, form, table, plan, steps.len()))
 }
 
 #[no_mangle]
@@ -72,7 +40,7 @@ pub extern "C" fn ildorzhen_expand_length(
 ) -> u64
     ensures { λ r. ⌜ r ≡ valueOf length (expandPlan bound form (now (table .entry)) (now (plan .entry)) (length (now (steps .entry)))) ⌝ }
 {
-    crate::reply::value(measure(bound, form, table, plan, steps.len()))
+    crate::reply::value(entries::expanding::measure(bound, form, table, plan, steps.len()))
 }
 
 #[no_mangle]
@@ -86,5 +54,5 @@ pub extern "C" fn ildorzhen_expand_write(
     ensures { λ r. ⌜ r ≡ valueOf length (expandPlan bound form (now (table .entry)) (now (plan .entry)) (length (now (steps .entry)))) ⌝ }
     ensures { λ _. ⌜ now (steps .exit) ≡ written (now (steps .entry)) 0 (expandPlan bound form (now (table .entry)) (now (plan .entry)) (length (now (steps .entry)))) ⌝ }
 {
-    crate::reply::value(write(bound, form, table, plan, steps))
+    crate::reply::value(entries::expanding::write(bound, form, table, plan, steps))
 }

@@ -40,5 +40,5 @@ fn decide(input: &[u8]) -> Verdict
     let size = report::two_bytes(report::byte(input, 2), report::byte(input, 3));
     let start = report::smaller(4, input.len());
     let end = start + report::smaller(size, input.len() - start);
-    console::plans::verdict(bound, form, &input[start..end], &input[end..])
+    entries::judging::verdict(bound, form, &input[start..end], &input[end..])
 }

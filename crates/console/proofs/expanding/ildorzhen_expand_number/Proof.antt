@@ -3,7 +3,7 @@ use lib.ListN.{length}
 use borrow.Author.Needs.{needs}
 use Rattle.basics.specs.Answers.{numberOf}
 use Rattle.rules.specs.Refusals.{expandPlan}
-use Rattle.console.proofs.TextAnswers.{length-number}
+use Rattle.console.proofs.LengthLaws.{length-number}
 use Rattle.console.proofs.expanding.ildorzhen_expand_number.Statement.{statement}
 use Rattle.console.proofs.expanding.ildorzhen_expand_number.Tie as tie
 

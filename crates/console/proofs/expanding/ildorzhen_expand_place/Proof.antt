@@ -3,7 +3,7 @@ use lib.ListN.{length}
 use borrow.Author.Needs.{needs}
 use Rattle.basics.specs.Answers.{placeOf}
 use Rattle.rules.specs.Refusals.{expandPlan}
-use Rattle.console.proofs.TextAnswers.{length-place}
+use Rattle.console.proofs.LengthLaws.{length-place}
 use Rattle.console.proofs.expanding.ildorzhen_expand_place.Statement.{statement}
 use Rattle.console.proofs.expanding.ildorzhen_expand_place.Tie as tie
 

@@ -3,7 +3,7 @@ use lib.ListN.{length}
 use borrow.Author.Needs.{needs}
 use Rattle.basics.specs.Answers.{numberOf}
 use Rattle.rules.specs.Refusals.{oneSection}
-use Rattle.console.proofs.TextAnswers.{length-number}
+use Rattle.console.proofs.LengthLaws.{length-number}
 use Rattle.console.proofs.one_section.ildorzhen_section_number.Statement.{statement}
 use Rattle.console.proofs.one_section.ildorzhen_section_number.Tie as tie
 

@@ -3,7 +3,7 @@ use lib.ListN.{length}
 use borrow.Author.Needs.{needs}
 use Rattle.basics.specs.Answers.{placeOf}
 use Rattle.rules.specs.Refusals.{oneSection}
-use Rattle.console.proofs.TextAnswers.{length-place}
+use Rattle.console.proofs.LengthLaws.{length-place}
 use Rattle.console.proofs.one_section.ildorzhen_section_place.Statement.{statement}
 use Rattle.console.proofs.one_section.ildorzhen_section_place.Tie as tie
 

@@ -1,0 +1,2 @@
+mod KeptLaws
+mod SectionCallLaws
