@@ -1,3 +1,4 @@
+use Rattle.facts.specs.Sets.{setOf}
 use borrow.Author.Needs.{needs}
 use native.Mathlib.Omega.{arith}
 use Rattle.drawing.proofs.DrawLaws.{_▹_, draws-is, space-less, room-after}
@@ -56,10 +57,10 @@ returns c =
     let n = f .before .before in
     let k = n .before in
     let a = k .before .before .before .before .args in
-    let set = bitOr (a .dels .bits) (without (a .adds .bits) (a .needs .bits)) in
-    let facts : Draws (factLines (effectCount (ones set) (a .stay) (a .task) (a .bottom)) (changeText (a .needs .bits) (a .dels .bits) (a .top) set) (changeBytes * mostFacts)) _ _ _ _ _ _ _ _ =
+    let set = bitOr (setOf (a .dels)) (without (setOf (a .adds)) (setOf (a .needs))) in
+    let facts : Draws (factLines (effectCount (ones set) (a .stay) (a .task) (a .bottom)) (changeText (setOf (a .needs)) (setOf (a .dels)) (a .top) set) (changeBytes * mostFacts)) _ _ _ _ _ _ _ _ =
     draws-is (omega arith) (omega arith)
-    (λ p. facts-as (n .effect-count .ensures .0 ∙ ap (λ (s : ℕ). effectCount (ones s) (a .stay) (a .task) (a .bottom)) (k .altered .ensures)) (ap (changeText (a .needs .bits) (a .dels .bits) (a .top)) (k .altered .ensures)))
+    (λ p. facts-as (n .effect-count .ensures .0 ∙ ap (λ (s : ℕ). effectCount (ones s) (a .stay) (a .task) (a .bottom)) (k .altered .ensures)) (ap (changeText (setOf (a .needs)) (setOf (a .dels)) (a .top)) (k .altered .ensures)))
     (f .fact-lines .ensures _ _) in
     facts ▹ h .top-moves .ensures ▹ w .task-moves .ensures
 

@@ -1,3 +1,4 @@
+use Rattle.facts.specs.Sets.{setOf}
 use borrow.Author.Needs.{needs}
 use native.Mathlib.Omega.{arith}
 use Prim.Native.Nat.{ℕ, _*_}
@@ -55,7 +56,7 @@ returns c =
     let n = f .before .before in
     let k = n .before in
     let a = k .before .before .before .before .args in
-    let facts : Draws (factLines (prevailCount (ones (without (a .needs .bits) (a .dels .bits))) (a .stay) (a .task) (a .bottom)) (holdText (a .top) (without (a .needs .bits) (a .dels .bits))) (holdBytes * mostFacts)) _ _ _ _ _ _ _ _ =
+    let facts : Draws (factLines (prevailCount (ones (without (setOf (a .needs)) (setOf (a .dels)))) (a .stay) (a .task) (a .bottom)) (holdText (a .top) (without (setOf (a .needs)) (setOf (a .dels)))) (holdBytes * mostFacts)) _ _ _ _ _ _ _ _ =
     draws-is (omega arith) (omega arith)
     (λ p. facts-as (n .prevail-count .ensures .0 ∙ ap (λ (s : ℕ). prevailCount (ones s) (a .stay) (a .task) (a .bottom)) (k .kept .ensures)) (ap (holdText (a .top)) (k .kept .ensures)))
     (f .fact-lines .ensures _ _) in

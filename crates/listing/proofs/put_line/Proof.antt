@@ -1,3 +1,4 @@
+use Rattle.facts.specs.Sets.{setOf}
 use borrow.Author.Needs.{needs}
 use native.Mathlib.Omega.{arith}
 use mathlib.Core.Path.{sym, ap, _∙_}
@@ -16,7 +17,7 @@ has-requires c κs = search needs
 returns : tie.Need-returns
 returns c =
     let a = c .before .before .before .args in
-    (appends-is (line-missing (a .says) (a .set .bits) (a .k) (sym (c .before .has .ensures) ∙ not-true _ (c .if1 .taken))) (appends-none _ _), search needs)
+    (appends-is (line-missing (a .says) (setOf (a .set)) (a .k) (sym (c .before .has .ensures) ∙ not-true _ (c .if1 .taken))) (appends-none _ _), search needs)
 
 enum-told : tie.Need-enum-told
 enum-told c = search needs
@@ -42,7 +43,7 @@ returns-2 c =
     let p = c .before .before in
     let a = p .before .before .before .before .before .before .before .args in
     let e = p .before .before .enum-told .given .1 in (
-      appends-is (line-there (a .says) (a .set .bits) (a .k) (sym (p .before .before .before .before .before .has .ensures) ∙ not-false _ (p .before .before .before .before .if1 .left)) ∙ ap (λ (s : Says). factLine s (a .k)) e) (p .put-holds .ensures .0),
+      appends-is (line-there (a .says) (setOf (a .set)) (a .k) (sym (p .before .before .before .before .before .has .ensures) ∙ not-false _ (p .before .before .before .before .if1 .left)) ∙ ap (λ (s : Says). factLine s (a .k)) e) (p .put-holds .ensures .0),
       omega (arith, p .put-holds .ensures .1, ap lineBytes e),
     )
 
@@ -54,7 +55,7 @@ returns-3 c =
     let p = c .before .before in
     let a = p .before .before .before .before .before .before .before .before .args in
     let e = p .before .before .before .says .given .1 in (
-      appends-is (line-there (a .says) (a .set .bits) (a .k) (sym (p .before .before .before .before .before .before .has .ensures) ∙ not-false _ (p .before .before .before .before .before .if1 .left)) ∙ ap (λ (s : Says). factLine s (a .k)) e) (p .put-change .ensures .0),
+      appends-is (line-there (a .says) (setOf (a .set)) (a .k) (sym (p .before .before .before .before .before .before .has .ensures) ∙ not-false _ (p .before .before .before .before .before .if1 .left)) ∙ ap (λ (s : Says). factLine s (a .k)) e) (p .put-change .ensures .0),
       omega (arith, p .put-change .ensures .1, ap lineBytes e),
     )
 

@@ -1,3 +1,4 @@
+use Rattle.facts.specs.Sets.{setOf}
 use borrow.Author.Needs.{needs}
 use native.Mathlib.Omega.{arith}
 use native.Mathlib.Nat.{mul-le-mul-left}
@@ -14,7 +15,7 @@ use Rattle.listing.proofs.put_lines.Statement.{statement}
 use Rattle.listing.proofs.put_lines.Tie as tie
 
 abbrev Inv-loop : tie.InvT-loop
-Inv-loop out₀ at says set n next₀ k₀ out next k = Appends out₀ at (upto (lineWhere says (set .bits)) k) out next × (k ≤ n) × (next ≤ at + lineBytes says * k)
+Inv-loop out₀ at says set n next₀ k₀ out next k = Appends out₀ at (upto (lineWhere says (setOf set)) k) out next × (k ≤ n) × (next ≤ at + lineBytes says * k)
 
 abbrev μ-loop : tie.MeasureT-loop
 μ-loop out₀ at says set n next₀ k₀ out next k = n - k
@@ -52,7 +53,7 @@ returns c =
     let l = c .before in
     let a = l .before .before .args in
     let e : a .n ≡ l .loop .k = omega arith in
-    (appends-is (list-lines (a .says) (a .n) (a .set .bits) ∙ ap (upto _) e) (l .loop .inv .0), omega (arith, l .before .before .pre .1, mul-le-mul-left {m = l .loop .k} {n = mostFacts} (lineBytes (a .says)) (omega (arith, l .before .before .pre .1))))
+    (appends-is (list-lines (a .says) (a .n) (setOf (a .set)) ∙ ap (upto _) e) (l .loop .inv .0), omega (arith, l .before .before .pre .1, mul-le-mul-left {m = l .loop .k} {n = mostFacts} (lineBytes (a .says)) (omega (arith, l .before .before .pre .1))))
 
 pub put-lines-spec : {M : Type 1} → statement M
 put-lines-spec =
