@@ -36,12 +36,8 @@ pub fn check(
     while at < end {
         lines += 1;
         match lines::line_at(text, at) {
-            Line::Shape => {
-                return Verdict::Refused(LINE_SHAPE, lines);
-            }
-            Line::Comment(next) => {
-                at = next;
-            }
+            Line::Shape => return Verdict::Refused(LINE_SHAPE, lines),
+            Line::Comment(next) => at = next,
             Line::Op(kind, n, pos, rest) => {
                 let m = run::operate(
                     words,
