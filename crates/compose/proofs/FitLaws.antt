@@ -5,6 +5,7 @@ use Prim.Native.Nat.{ℕ, suc, _+_, _≤_, _<_}
 use native.Mathlib.Omega.{arith}
 use lib.ListN.{length, getD, length-drop}
 use lib.Seq.{getD-drop}
+use Rattle.basics.specs.Texts.{ThreeDigits}
 use Rattle.rules.specs.Limits.{mostSubtasks}
 use Rattle.rules.specs.Tables.{Table, actionCount, methodCount, factCount, taskCount, method}
 use Rattle.rules.specs.Progression.{Step, prefix}
@@ -25,22 +26,22 @@ row-text b f t x ops cells p e = ap (λ (r : Row). rowText (factCount t) (taskCo
 
 -- The task of a step and those that it leaves are tasks of the table.
 module _ (f : ℕ) (t : Table) (v : Valid t) (i : ℕ) (l : i < actionCount t + methodCount t) where
-  task-low : taskOf t (stepAt t i) < 1000
+  task-low : ThreeDigits (taskOf t (stepAt t i))
   task-low =
-      by-step t (λ _ x. taskOf t x < 1000) i l
+      by-step t (λ _ x. ThreeDigits (taskOf t x)) i l
       (λ k h. omega (arith, v .head .actions))
       (λ k h. omega (arith, v .head .tasks, v .head .actions, v .head .abstracts, v .method k h .high))
 
-  left-low : (m : ℕ) → m < length (leaves f t (stepAt t i)) → getD (leaves f t (stepAt t i)) m 0 < 1000
+  left-low : (m : ℕ) → m < length (leaves f t (stepAt t i)) → ThreeDigits (getD (leaves f t (stepAt t i)) m 0)
   left-low =
-      by-step t (λ _ x. (m : ℕ) → m < length (leaves f t x) → getD (leaves f t x) m 0 < 1000) i l
+      by-step t (λ _ x. (m : ℕ) → m < length (leaves f t x) → ThreeDigits (getD (leaves f t x) m 0)) i l
       (λ k h m u. absurd (omega arith))
       (λ k h m u.
       let p = length (prefix f t k) in
       let w : p + m < length (method t k .subs) = omega (arith, u, length-drop p (method t k .subs)) in
       rw (getD-drop p (method t k .subs) m 0) (omega (arith, v .head .tasks, v .head .actions, v .head .abstracts, v .method k h .subs (p + m) w)))
 
-pub row-fit : (b f : ℕ) (t : Table) (i k : ℕ) (ops cells : List ℕ) → Valid t → i < actionCount t + methodCount t → k < 1000
+pub row-fit : (b f : ℕ) (t : Table) (i k : ℕ) (ops cells : List ℕ) → Valid t → i < actionCount t + methodCount t → ThreeDigits k
     → rowAt ops cells 0 ≡ rowOf b f t (stepAt t i) → RowsFit 1 ops cells → Fit (factCount t) (taskCount t) k ops cells
 row-fit b f t i k ops cells v l h e fits =
     let low = joined-low t v f i in
@@ -53,6 +54,6 @@ row-fit b f t i k ops cells v l h e fits =
       row = subst (Small (factCount t)) (sym e) small;
       left = record {
         held = record { fits = fits; few = subst (λ (xs : List ℕ). length xs ≤ mostSubtasks) rest (leaves-few f t v i l) };
-        low = subst (λ (xs : List ℕ). (m : ℕ) → m < length xs → getD xs m 0 < 1000) rest (left-low f t v i l);
+        low = subst (λ (xs : List ℕ). (m : ℕ) → m < length xs → ThreeDigits (getD xs m 0)) rest (left-low f t v i l);
       };
     }

@@ -18,7 +18,7 @@ use opening::Opening;
 use template::FIGURE_BYTES;
 
 // Sizes, with the names that specs/Sizes has for them.
-const STEP_SPACE: usize = template::STEP_BYTES + template::MARGIN;
+const STEP_SPACE: usize = template::STEP_TEXT_BYTES + template::MARGIN;
 
 const PART_BYTES: usize = 524288;
 

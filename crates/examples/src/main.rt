@@ -38,7 +38,7 @@ fn run_one(all: &[u8], at: usize) -> usize
 // c, e: an input of the checking program, of the emitting program; n, s, l, x, y: see there; t: a title, which is said as it is.
 fn show(kind: u8, input: &[u8]) {
     match kind {
-        b'c' => verifying::judge(input),
+        b'c' => verifying::tell(input),
         b'e' => emission::emit(input),
         b'n' => calls::sections(input),
         b's' => calls::section(input),

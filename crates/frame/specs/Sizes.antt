@@ -5,6 +5,10 @@ use Rattle.problem.specs.Sizes.{mostVariables}
 use Rattle.listing.specs.declared.Says.the-variants.{Holds}
 use Rattle.listing.specs.Listings.{listBytes}
 
+-- A variable's lines as far as its count of values.
+abbrev pub headBytes : ℕ
+headBytes = 32
+
 -- Seven bytes for the name of a height or a task, four for a value at the start.
 abbrev pub namesBytes : ℕ
 namesBytes = 7 * mostTasks

@@ -16,7 +16,7 @@ ghost use Rattle.words.specs.Words.{tableOf, Held};
 ghost use Rattle.problem.specs.Sizes.{mostVariables};
 ghost use Rattle.text.specs.Appends.{Appends};
 ghost use Rattle.frame.specs.Frames.{labelled, variableHead, variable, positionNames, startLine, stateText, goalText};
-ghost use Rattle.frame.specs.Sizes.{namesBytes, valuesBytes, stateBytes, goalBytes};
+ghost use Rattle.frame.specs.Sizes.{headBytes, namesBytes, valuesBytes, stateBytes, goalBytes};
 use listing::Says;
 
 // Text, a number of at most three digits, a line feed.
@@ -45,10 +45,10 @@ pub fn put_preamble(words: &[u64], bound: u64, out: &mut [u8], at: usize) -> usi
 }
 
 // A variable's section as far as its count of values.
-fn put_opening(out: &mut [u8], at: usize, v: u64, values: u64) -> usize
-    requires { ⌜ (at + 32 ≤ length (now out)) × ThreeDigits v × ThreeDigits values ⌝ }
+fn put_head(out: &mut [u8], at: usize, v: u64, values: u64) -> usize
+    requires { ⌜ (at + headBytes ≤ length (now out)) × ThreeDigits v × ThreeDigits values ⌝ }
     ensures { λ r. ⌜ Appends (now (out .entry)) at (variableHead v values) (now (out .exit)) r ⌝ }
-    ensures { λ r. ⌜ r ≤ at + 32 ⌝ }
+    ensures { λ r. ⌜ r ≤ at + headBytes ⌝ }
 {
     let next = put_line(out, at, b"begin_variable\nvar", v);
     put_line(out, next, b"-1\n", values)
@@ -73,7 +73,7 @@ fn put_fact_variable(out: &mut [u8], at: usize, v: u64) -> usize
     ensures { λ r. ⌜ Appends (now (out .entry)) at (spellVariable (variable v (factNames v))) (now (out .exit)) r ⌝ }
     ensures { λ r. ⌜ r ≤ at + mostSectionBytes ⌝ }
 {
-    let holds = put_opening(out, at, v, 2);
+    let holds = put_head(out, at, v, 2);
     let fails = put_line(out, holds, b"Atom f", v);
     let end = put_line(out, fails, b"NegatedAtom f", v);
     text::put(out, end, b"end_variable\n")
@@ -86,7 +86,7 @@ fn put_top_variable(out: &mut [u8], at: usize, v: u64, bound: u64) -> usize
     ensures { λ r. ⌜ r ≤ at + mostSectionBytes ⌝ }
 {
     let heights = bound + 1;
-    let names = put_opening(out, at, v, heights);
+    let names = put_head(out, at, v, heights);
     let end = put_names(out, names, b"top", heights);
     text::put(out, end, b"end_variable\n")
 }
@@ -97,7 +97,7 @@ fn put_position_variable(out: &mut [u8], at: usize, v: u64, tasks: u64) -> usize
     ensures { λ r. ⌜ Appends (now (out .entry)) at (spellVariable (variable v (positionNames tasks))) (now (out .exit)) r ⌝ }
     ensures { λ r. ⌜ r ≤ at + mostSectionBytes ⌝ }
 {
-    let names = put_opening(out, at, v, tasks + 1);
+    let names = put_head(out, at, v, tasks + 1);
     let end = put_names(out, names, b"t", tasks);
     text::put(out, end, b"none\nend_variable\n")
 }

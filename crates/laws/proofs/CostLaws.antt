@@ -7,6 +7,7 @@ use native.Mathlib.Omega.{arith}
 use lib.Dec.{ltb→lt}
 use lib.ListN.{length, getD, drop, List·getD-append}
 use lib.Seq.{drop-cons}
+use Rattle.rules.specs.Limits.{mostSubtasks, mostCost}
 use Rattle.rules.specs.Tables.{Table, actionCount, methodCount, action, method}
 use Rattle.rules.specs.Progression.{act, prefix, stays, totalCost}
 use Rattle.laws.specs.Valid.{Valid}
@@ -18,7 +19,7 @@ below-at a [] b j l = absurd (omega arith)
 below-at a (k ∷ ks) b zero l = ltb→lt k a (b .0)
 below-at a (k ∷ ks) b (suc j) l = below-at a ks (b .1) j (omega arith)
 
-cost-most : (t : Table) → Valid t → (ks : List ℕ) → Below (actionCount t) ks → totalCost t (map act ks) ≤ 65535 * length ks
+cost-most : (t : Table) → Valid t → (ks : List ℕ) → Below (actionCount t) ks → totalCost t (map act ks) ≤ mostCost * length ks
 cost-most t v [] b = omega arith
 cost-most t v (k ∷ ks) b = omega (arith, cost-most t v ks (b .1), v .action k (below-at (actionCount t) (k ∷ ks) b 0 (omega arith)) .cost)
 
@@ -35,5 +36,5 @@ module _ (f : ℕ) (t : Table) (k : ℕ) (j : ℕ) (l : j < length (prefix f t k
       ∙ (λ i. action t (sym prefix-at i) .cost + totalCost t (map act (drop (sym (add-one j) i) (prefix f t k))))
 
 -- At most eight actions of 65,535 each.
-pub prefix-cheap : (f : ℕ) (t : Table) (k : ℕ) → Valid t → k < methodCount t → totalCost t (map act (prefix f t k)) ≤ 524280
+pub prefix-cheap : (f : ℕ) (t : Table) (k : ℕ) → Valid t → k < methodCount t → totalCost t (map act (prefix f t k)) ≤ mostSubtasks * mostCost
 prefix-cheap f t k v l = omega (arith, cost-most t v (prefix f t k) (prefix-below f t k), prefix-short f t k, v .method k l .count)

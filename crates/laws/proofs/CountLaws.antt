@@ -8,6 +8,7 @@ use native.Mathlib.Omega.{arith}
 use borrow.Author.Tests.{lt-ltb, ne-eqb}
 use lib.Dec.{ltb, eqb}
 use lib.ListN.{length, length-append, length-map}
+use Rattle.rules.specs.Limits.{mostActions, mostMethods, mostBound}
 use Rattle.basics.specs.Lists.{rows, upto, sumTo}
 use Rattle.rules.specs.Tables.{Table, actionCount, methodCount, factCount, method}
 use Rattle.rules.specs.Progression.{Step, act, mth, leading, prefix, remain}
@@ -57,9 +58,9 @@ method-positions-low b f t k = go (ltb k (methodCount t)) (joined f t (mth k) .d
 pub methods-low : (b f : ℕ) (t : Table) (n : ℕ) → sumTo (λ k. positions b f t (mth k)) n ≤ b * n
 methods-low b f t n = sum-most (λ k. positions b f t (mth k)) b (method-positions-low b f t) n
 
--- 64 positions for each of 255 actions and 512 methods.
-pub few-operators : (b f : ℕ) (t : Table) (n : ℕ) → Valid t → b ≤ 64 → n ≤ methodCount t
-    → actionCount t * b + sumTo (λ k. positions b f t (mth k)) n ≤ 49088
+-- So many positions for each action and each method.
+pub few-operators : (b f : ℕ) (t : Table) (n : ℕ) → Valid t → b ≤ mostBound → n ≤ methodCount t
+    → actionCount t * b + sumTo (λ k. positions b f t (mth k)) n ≤ mostBound * (mostActions + mostMethods)
 few-operators b f t n v h l =
     omega (
       arith,
@@ -89,7 +90,7 @@ operators-length b f t =
     ∙ mul-comm b (actionCount t))
     (kind-length b f t mth (methodCount t))
 
-pub operators-few : (b f : ℕ) (t : Table) → Valid t → b ≤ 64 → length (operatorsOf b f t) ≤ 49088
+pub operators-few : (b f : ℕ) (t : Table) → Valid t → b ≤ mostBound → length (operatorsOf b f t) ≤ mostBound * (mostActions + mostMethods)
 operators-few b f t v h = rw (operators-length b f t) (few-operators b f t (methodCount t) v h (omega arith))
 
 -- One section, one for each variable, one, one for each operator, and one.

@@ -6,6 +6,7 @@ use mathlib.Core.List.{List, [], _∷_, _++_, append-assoc}
 use native.Mathlib.Omega.{arith}
 use lib.ListN.{length, length-append}
 use lib.Dec.{T, leb, ltb, eqb, leb→le, le→leb, ltb→lt, eqb→eq}
+use Rattle.rules.specs.Limits.{mostBound}
 use Rattle.rules.specs.Tables.{Table, actionCount, methodCount, startTask, method}
 use Rattle.rules.specs.Progression.{Step, act, mth}
 use Rattle.rules.specs.LeastBounds.{Clears, Least, boundOf, rise, upToMost}
@@ -54,7 +55,7 @@ module _ (t : Table) where
       let n : length (method t k .subs ++ (st ++ ts)) ≤ b = omega (arith, r .1, length-append (method t k .subs) (st ++ ts), length-append (method t k .subs) st, length-append st ts) in
       (r .0, n, rw append-assoc at q)
 
-  pub clear-all : (v : List ℕ) → Sound t v → (b : ℕ) → b ≤ 64 → (ts : List ℕ) → rise v ts ≤ b → (xs : List Step) × Clears t b ts xs
+  pub clear-all : (v : List ℕ) → Sound t v → (b : ℕ) → b ≤ mostBound → (ts : List ℕ) → rise v ts ≤ b → (xs : List Step) × Clears t b ts xs
   unfolding Sound
   clear-all v s b h [] l = ([], tt)
   clear-all v s b h (c ∷ ts) l =
@@ -62,18 +63,18 @@ module _ (t : Table) where
       let q = clear-all v s b h ts (omega arith) in
       (p .0 ++ q .0, above (boundOf v c) b ts (q .0) (omega arith) (q .1) (p .0) (c ∷ []) (p .1))
 
-upToMost-low : (n : ℕ) → n ≤ 64 → upToMost n ≡ n
-upToMost-low n h = go (leb n 64) (le→leb n 64 h)
+upToMost-low : (n : ℕ) → n ≤ mostBound → upToMost n ≡ n
+upToMost-low n h = go (leb n mostBound) (le→leb n mostBound h)
   where
     go : (c : Bool) → T c → cond c n 0 ≡ n
     go true x = refl
     go false x = absurd x
 
-upToMost-some : (n : ℕ) → 1 ≤ upToMost n → n ≤ 64
-upToMost-some n h = go (leb n 64) refl h
+upToMost-some : (n : ℕ) → 1 ≤ upToMost n → n ≤ mostBound
+upToMost-some n h = go (leb n mostBound) refl h
   where
-    go : (c : Bool) → leb n 64 ≡ c → 1 ≤ cond c n 0 → n ≤ 64
-    go true e x = leb→le n 64 (rw e tt)
+    go : (c : Bool) → leb n mostBound ≡ c → 1 ≤ cond c n 0 → n ≤ mostBound
+    go true e x = leb→le n mostBound (rw e tt)
     go false e x = absurd (omega arith)
 
 -- Sound and closed bounds give the least bound.
@@ -82,10 +83,10 @@ unfolding Sound
 least t v s closed =
     record {
       clears = λ h.
-          let n : boundOf v (startTask t) ≤ 64 = upToMost-some (boundOf v (startTask t)) h in
+          let n : boundOf v (startTask t) ≤ mostBound = upToMost-some (boundOf v (startTask t)) h in
           rw (upToMost-low (boundOf v (startTask t)) n) (n, (closed .some (startTask t), s (startTask t) n));
       smallest = λ b h c.
           let q = clears-rise t v closed b (c .1 .0) (startTask t ∷ []) (c .0) (c .1 .1) in
-          let n : boundOf v (startTask t) ≤ 64 = omega (arith, q) in
+          let n : boundOf v (startTask t) ≤ mostBound = omega (arith, q) in
           rw (upToMost-low (boundOf v (startTask t)) n) (closed .some (startTask t), omega (arith, q));
     }

@@ -13,20 +13,20 @@ use mathlib.Core.Bool.{Bool, true, false, cond}
 use lib.Dec.{ltb, leb, eqb, lit<}
 use lib.ListN.{length, take, drop, getD, drop-of-length-le, length-drop}
 use lib.Seq.{drop-cons, slice, slice-cons, slice-empty, getD-drop}
-use Rattle.rules.specs.Numbers.{run, groupsValue, sound, numberAt, readNumber, inRange, ranged}
+use Rattle.rules.specs.Numbers.{groupsBefore, groupsValue, sound, numberAt, readNumber, inRange, ranged}
 use Rattle.basics.specs.Readings.{Reading, got, bad, then}
 
 module _ (s : List ℕ) (i : ℕ) where
-  pub run-end : length s ≤ i → run (drop i s) ≡ 0
-  unfolding run
+  pub run-end : length s ≤ i → groupsBefore (drop i s) ≡ 0
+  unfolding groupsBefore
   run-end h = rw (drop-of-length-le s h)
 
-  pub run-stop : i < length s → getD s i 0 < 128 → run (drop i s) ≡ 0
-  unfolding run
+  pub run-stop : i < length s → getD s i 0 < 128 → groupsBefore (drop i s) ≡ 0
+  unfolding groupsBefore
   run-stop h b = rw (drop-cons s i 0 h, lt-ltb _ _ b)
 
-  pub run-more : i < length s → 128 ≤ getD s i 0 → run (drop i s) ≡ run (drop (i + 1) s) + 1
-  unfolding run
+  pub run-more : i < length s → 128 ≤ getD s i 0 → groupsBefore (drop i s) ≡ groupsBefore (drop (i + 1) s) + 1
+  unfolding groupsBefore
   run-more h b = rw (drop-cons s i 0 h, le-ltb _ _ b, add-one, add-one)
 
 -- the groups from i on stand for the one at i and 128 times the rest
@@ -79,21 +79,21 @@ sound-room k b h u = go (decLt k 9)
         (omega arith, omega (arith, pow-le-pow-right {n = 128} (lit< tt) j))
 
 -- what follows the bytes with the top bit set has none
-pub run-below : (l : List ℕ) → run l < length l → getD l (run l) 0 < 128
-unfolding run
+pub run-below : (l : List ℕ) → groupsBefore l < length l → getD l (groupsBefore l) 0 < 128
+unfolding groupsBefore
 run-below [] h = omega arith
 run-below (b ∷ bs) h = go (ltb b 128) refl (run-below bs) h
   where
-    go : (t : Bool) → ltb b 128 ≡ t → (run bs < length bs → getD bs (run bs) 0 < 128) → cond t 0 (suc (run bs)) < length (b ∷ bs) → getD (b ∷ bs) (cond t 0 (suc (run bs))) 0 < 128
+    go : (t : Bool) → ltb b 128 ≡ t → (groupsBefore bs < length bs → getD bs (groupsBefore bs) 0 < 128) → cond t 0 (suc (groupsBefore bs)) < length (b ∷ bs) → getD (b ∷ bs) (cond t 0 (suc (groupsBefore bs))) 0 < 128
     go true e r h = ltb-true b 128 e
     go false e r h = r (omega arith)
 
 -- the three answers at a place, by where the last group stands
-module _ (s : List ℕ) (at e : ℕ) (q : e ≡ at + run (drop at s)) where
+module _ (s : List ℕ) (at e : ℕ) (q : e ≡ at + groupsBefore (drop at s)) where
   pub last-below : e < length s → getD s e 0 < 128
   last-below h =
-      let l : run (drop at s) < length (drop at s) = rw (length-drop at s) (omega arith) in
-      rw (q, ← getD-drop at s (run (drop at s)) 0) (run-below (drop at s) l)
+      let l : groupsBefore (drop at s) < length (drop at s) = rw (length-drop at s) (omega arith) in
+      rw (q, ← getD-drop at s (groupsBefore (drop at s)) 0) (run-below (drop at s) l)
 
   pub number-ends : length s ≤ e → readNumber s at ≡ bad 5 at
   unfolding numberAt
@@ -102,13 +102,13 @@ module _ (s : List ℕ) (at e : ℕ) (q : e ≡ at + run (drop at s)) where
   pub number-long : e < length s → sound (e - at) (getD s e 0) ≡ false → readNumber s at ≡ bad 6 at
   unfolding numberAt
   number-long h t =
-      let k : run (drop at s) ≡ e - at = omega arith in
+      let k : groupsBefore (drop at s) ≡ e - at = omega arith in
       rw (← q, lt-ltb e (length s) h, k, t)
 
   pub number-got : e < length s → sound (e - at) (getD s e 0) ≡ true → readNumber s at ≡ got (groupsValue (slice at (e + 1) s)) (e + 1)
   unfolding numberAt
   number-got h t =
-      let k : run (drop at s) ≡ e - at = omega arith in
+      let k : groupsBefore (drop at s) ≡ e - at = omega arith in
       rw (← q, lt-ltb e (length s) h, k, t)
 
 -- a number that was read lies in its range

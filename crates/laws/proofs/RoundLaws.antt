@@ -8,6 +8,7 @@ use native.Mathlib.Decide.{ℕ-discrete, decLt}
 use lib.ListN.{length, set, replicate, length-append, length-replicate, length-set}
 use lib.Seq.{getD-set-same, getD-set-other}
 use lib.Dec.{T, ltb, eqb, ltb→lt, lt→ltb, nltb→le, eqb-refl}
+use Rattle.rules.specs.Limits.{mostBound}
 use Rattle.rules.specs.Tables.{Table, Method, actionCount, taskCount, methodCount, startTask, method}
 use Rattle.rules.specs.Progression.{Step, act, mth}
 use Rattle.rules.specs.LeastBounds.{Clears, Least, boundOf, rise, methodBound, lowers, improve, round, settled, rounds, total, first, upToMost, leastBound}
@@ -40,7 +41,7 @@ module _ (t : Table) (valid : Valid t) where
         size = rw (length-set v (m .head) n) (q .size);
         some = at-set (λ c x. 1 ≤ x) v (m .head) n i (omega arith) (q .some);
         acts = at-set (λ c x. c < actionCount t → x ≤ 1) v (m .head) n i (λ h. absurd (omega (arith, valid .method k l .low))) (q .acts);
-        sound = at-set (λ c x. x ≤ 64 → (xs : List Step) × Clears t x (c ∷ []) xs) v (m .head) n i
+        sound = at-set (λ c x. x ≤ mostBound → (xs : List Step) × Clears t x (c ∷ []) xs) v (m .head) n i
             (λ h.
             let r = clear-all t v (q .sound) n h (m .subs) (omega arith) in (
               mth k ∷ r .0,
@@ -158,7 +159,7 @@ begins t v l low high =
       size = l;
       some = cases (λ c x. 1 ≤ x) (λ c h. omega arith) (λ c h. omega arith);
       acts = cases (λ c x. c < actionCount t → x ≤ 1) (λ c h k. omega arith) (λ c h k. absurd (omega arith));
-      sound = cases (λ c x. x ≤ 64 → (xs : List Step) × Clears t x (c ∷ []) xs)
+      sound = cases (λ c x. x ≤ mostBound → (xs : List Step) × Clears t x (c ∷ []) xs)
           (λ c h k. (act c ∷ [], (and-i (ltb c (actionCount t)) (eqb c c) (lt→ltb _ _ h) (eqb-refl c), omega arith, tt)))
           (λ c h k. absurd (omega arith));
     }

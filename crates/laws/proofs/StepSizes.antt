@@ -2,10 +2,11 @@
 use mathlib.Core.Path.{_≡_}
 use mathlib.Core.Bool.{Bool, true, false, cond}
 use mathlib.Core.List.{_∷_, map}
-use Prim.Native.Nat.{ℕ, zero, suc, _+_, _-_, _≤_, _<_}
+use Prim.Native.Nat.{ℕ, zero, suc, _+_, _*_, _-_, _≤_, _<_}
 use native.Mathlib.Omega.{arith}
 use lib.ListN.{length, length-drop}
 use borrow.Author.Tests.{ne-eqb}
+use Rattle.rules.specs.Limits.{mostSubtasks, mostCost, mostBound}
 use Rattle.rules.specs.Tables.{Table, actionCount, methodCount, method}
 use Rattle.rules.specs.Progression.{act, mth, prefix, stays, remain, totalCost}
 use Rattle.rules.specs.Operators.{company, leaves, positions, highest, joined}
@@ -19,7 +20,7 @@ use Rattle.laws.proofs.StepNumbers.{by-step}
 pub stay-length : (f : ℕ) (t : Table) (k : ℕ) → length (stays f t k) ≡ length (method t k .subs) - length (prefix f t k)
 stay-length f t k = length-drop (length (prefix f t k)) (method t k .subs)
 
-highest-fits : (d : Bool) (b r : ℕ) → b ≤ 64 → r ≤ 8 → cond d 0 (highest b r) + r ≤ 65
+highest-fits : (d : Bool) (b r : ℕ) → b ≤ mostBound → r ≤ mostSubtasks → cond d 0 (highest b r) + r ≤ mostBound + 1
 highest-fits true b r l h = omega arith
 highest-fits false b zero l h = omega arith
 highest-fits false b (suc r) l h = rw (ne-eqb (suc r) 0 (omega arith)) (omega arith)
@@ -34,14 +35,14 @@ module _ (f : ℕ) (t : Table) (v : Valid t) (i : ℕ) (l : i < actionCount t + 
       by-step t (λ _ x. length (company f t x) ≤ 8) i l (λ k h. omega arith) (λ k h. omega (arith, v .method k h .count, prefix-short f t k))
 
   -- At most eight actions of 65,535 each.
-  pub cost-low : totalCost t (stepAt t i ∷ map act (company f t (stepAt t i))) ≤ 524280
+  pub cost-low : totalCost t (stepAt t i ∷ map act (company f t (stepAt t i))) ≤ mostSubtasks * mostCost
   cost-low =
-      by-step t (λ _ x. totalCost t (x ∷ map act (company f t x)) ≤ 524280) i l
+      by-step t (λ _ x. totalCost t (x ∷ map act (company f t x)) ≤ mostSubtasks * mostCost) i l
       (λ k h. omega (arith, v .action k h .cost))
       (λ k h. omega (arith, prefix-cheap f t k v h))
 
-  -- Even at its highest position a step leaves the stack at most 64 high.
-  pub height-low : (b : ℕ) → b ≤ 64 → positions b f t (stepAt t i) + length (leaves f t (stepAt t i)) ≤ 65
+  -- Even at its highest position a step leaves the stack no higher than the highest bound.
+  pub height-low : (b : ℕ) → b ≤ mostBound → positions b f t (stepAt t i) + length (leaves f t (stepAt t i)) ≤ mostBound + 1
   height-low b h =
       by-step t (λ _ x. positions b f t x + length (leaves f t x) ≤ 65) i l
       (λ k p. omega (arith, action-positions b f t k p))

@@ -9,6 +9,8 @@ use lib.Dec.{ltb}
 use native.Mathlib.Nat.{eq-or-lt-of-le}
 use Prim.Native.Nat.{ℕ, zero, suc, _+_, _-_, _≤_, _<_}
 use native.Mathlib.Omega.{arith}
+use Rattle.rules.specs.Reasons.{outOfRange, notThere}
+use Rattle.rules.specs.Limits.{mostFacts, mostActions, mostTasks, mostMethods, mostSubtasks, mostCost}
 use Rattle.basics.specs.Readings.{Reading, got, bad, then, many}
 use Rattle.rules.specs.Numbers.{ranged}
 use Rattle.rules.specs.Tables.{Header, Action, Method, Table, allFacts, noAction, noMethod, taskCount, methodCount, method, header, readAction, readMethod, closed, decode}
@@ -23,13 +25,13 @@ each (bad why at) f h k = let z : _≡_ {A = ℕ} 0 1 = cc in absurd (omega arit
 pub bounded : (s : List ℕ) (at : ℕ) {h : Header} {next : ℕ} → header s at ≡ got h next → Bounded h
 unfolding header
 bounded s at {h} {next} e =
-    each (ranged s 0 64 7 at) _ e λ facts p1 e1 g1.
-    each (ranged s 0 255 7 p1) _ g1 λ actions p2 e2 g2.
-    each (ranged s 1 (256 - actions) 7 p2) _ g2 λ abstracts p3 e3 g3.
-    each (ranged s 0 512 7 p3) _ g3 λ methods p4 e4 g4.
-    each (ranged s actions (actions + abstracts - 1) 8 p4) _ g4 λ start p5 e5 g5.
-    each (ranged s 0 (allFacts facts) 8 p5) _ g5 λ init p6 e6 g6.
-    each (ranged s 0 (allFacts facts) 8 p6) _ g6 λ goal p7 e7 g7.
+    each (ranged s 0 mostFacts outOfRange at) _ e λ facts p1 e1 g1.
+    each (ranged s 0 mostActions outOfRange p1) _ g1 λ actions p2 e2 g2.
+    each (ranged s 1 (mostTasks - actions) outOfRange p2) _ g2 λ abstracts p3 e3 g3.
+    each (ranged s 0 mostMethods outOfRange p3) _ g3 λ methods p4 e4 g4.
+    each (ranged s actions (actions + abstracts - 1) notThere p4) _ g4 λ start p5 e5 g5.
+    each (ranged s 0 (allFacts facts) notThere p5) _ g5 λ init p6 e6 g6.
+    each (ranged s 0 (allFacts facts) notThere p6) _ g6 λ goal p7 e7 g7.
     let q : record { facts = facts; actions = actions; abstracts = abstracts; methods = methods; start = start; init = init; goal = goal } ≡ h = cc in
     subst Bounded q
     (record {
@@ -68,10 +70,10 @@ module _ {A : Type 0} (p : ℕ → Reading A) (from : ℕ) (P : A → Type 0) (d
 good-action : (s : List ℕ) (h : Header) (at : ℕ) (a : Action) (n : ℕ) → readAction s (allFacts (h .facts)) at ≡ got a n → GoodAction h a
 unfolding readAction
 good-action s h at a n e =
-    each (ranged s 0 (allFacts (h .facts)) 8 at) _ e λ needs p1 e1 g1.
-    each (ranged s 0 (allFacts (h .facts)) 8 p1) _ g1 λ adds p2 e2 g2.
-    each (ranged s 0 (allFacts (h .facts)) 8 p2) _ g2 λ dels p3 e3 g3.
-    each (ranged s 0 65535 7 p3) _ g3 λ cost p4 e4 g4.
+    each (ranged s 0 (allFacts (h .facts)) notThere at) _ e λ needs p1 e1 g1.
+    each (ranged s 0 (allFacts (h .facts)) notThere p1) _ g1 λ adds p2 e2 g2.
+    each (ranged s 0 (allFacts (h .facts)) notThere p2) _ g2 λ dels p3 e3 g3.
+    each (ranged s 0 mostCost outOfRange p3) _ g3 λ cost p4 e4 g4.
     let q : record { needs = needs; adds = adds; dels = dels; cost = cost } ≡ a = cc in
     subst (GoodAction h) q
     (record {
@@ -84,11 +86,11 @@ good-action s h at a n e =
 good-method : (s : List ℕ) (h : Header) (at : ℕ) (m : Method) (n : ℕ) → readMethod s (h .actions) (h .actions + h .abstracts - 1) at ≡ got m n → GoodMethod h m
 unfolding readMethod
 good-method s h at m n e =
-    each (ranged s (h .actions) (h .actions + h .abstracts - 1) 8 at) _ e λ head p1 e1 g1.
-    each (ranged s 0 8 7 p1) _ g1 λ c p2 e2 g2.
-    each (many (ranged s 0 (h .actions + h .abstracts - 1) 8) c p2) _ g2 λ subs p3 e3 g3.
+    each (ranged s (h .actions) (h .actions + h .abstracts - 1) notThere at) _ e λ head p1 e1 g1.
+    each (ranged s 0 mostSubtasks outOfRange p1) _ g1 λ c p2 e2 g2.
+    each (many (ranged s 0 (h .actions + h .abstracts - 1) notThere) c p2) _ g2 λ subs p3 e3 g3.
     let q : record { head = head; subs = subs } ≡ m = cc in
-    let r = many-all (ranged s 0 (h .actions + h .abstracts - 1) 8) p2 (λ x. x ≤ h .actions + h .abstracts - 1) 0 (λ at x n e. ranged-got _ _ _ _ _ e .1) c e3 in
+    let r = many-all (ranged s 0 (h .actions + h .abstracts - 1) notThere) p2 (λ x. x ≤ h .actions + h .abstracts - 1) 0 (λ at x n e. ranged-got _ _ _ _ _ e .1) c e3 in
     subst (GoodMethod h) q
     (record {
       low = ranged-got _ _ _ _ _ e1 .0;

@@ -1,4 +1,4 @@
--- One line of a plan text, byte by byte from a place on. A byte past the end reads as 0, which no line has.
+-- One line of a plan text, byte by byte from a place on. A byte past the end reads as 0.
 use mathlib.Core.Bool.{cond}
 use mathlib.Core.List.{List, [], _∷_}
 use Prim.Native.Nat.{ℕ, suc, _+_, _-_, _*_}

@@ -7,7 +7,7 @@ ghost use Rattle.rules.specs.Limits.{mostFacts};
 ghost use Rattle.rules.specs.Problems.{set as Problems·set, factEffect};
 ghost use Rattle.facts.specs.Sets.{setOf};
 ghost use Rattle.text.specs.Appends.{Appends};
-ghost use Rattle.listing.specs.Listings.{beforeBytes, afterBytes, lineWhere, listText, lineBytes, listBytes};
+ghost use Rattle.listing.specs.Listings.{holdBytes, changeBytes, beforeBytes, afterBytes, lineWhere, listText, lineBytes, listBytes};
 use facts::Set;
 
 // What a list says of each of its facts: that it holds, or how it changes, by the facts that are needed and those that are deleted.
@@ -18,9 +18,9 @@ pub enum Says {
 
 // That fact k holds.
 fn put_holds(out: &mut [u8], at: usize, k: u64) -> usize
-    requires { ⌜ (at + 6 ≤ length (now out)) × (k < mostFacts) ⌝ }
+    requires { ⌜ (at + holdBytes ≤ length (now out)) × (k < mostFacts) ⌝ }
     ensures { λ r. ⌜ Appends (now (out .entry)) at (spellSetting (Problems·set k 0)) (now (out .exit)) r ⌝ }
-    ensures { λ r. ⌜ r ≤ at + 6 ⌝ }
+    ensures { λ r. ⌜ r ≤ at + holdBytes ⌝ }
 {
     let next = text::put_field(out, at, b"", k);
     text::put(out, next, b" 0\n")
@@ -52,9 +52,9 @@ fn put_after(out: &mut [u8], at: usize, deleted: bool) -> usize
 
 // How fact k changes.
 fn put_change(out: &mut [u8], at: usize, needs: Set, dels: Set, k: u64) -> usize
-    requires { ⌜ (at + 11 ≤ length (now out)) × (k < mostFacts) ⌝ }
+    requires { ⌜ (at + changeBytes ≤ length (now out)) × (k < mostFacts) ⌝ }
     ensures { λ r. ⌜ Appends (now (out .entry)) at (spellEffect (factEffect (setOf needs) (setOf dels) k)) (now (out .exit)) r ⌝ }
-    ensures { λ r. ⌜ r ≤ at + 11 ⌝ }
+    ensures { λ r. ⌜ r ≤ at + changeBytes ⌝ }
 {
     let value = text::put_field(out, at, b"0 ", k);
     let next = put_before(out, value, facts::has(needs, k));

@@ -11,7 +11,7 @@ use lib.Dec.{eqb, lit<}
 use lib.ListN.{length, drop, getD}
 use lib.Seq.{slice, slice-cons}
 use Rattle.rules.specs.Reasons.{badNumber}
-use Rattle.rules.specs.Numbers.{run, groupsValue, sound, readNumber}
+use Rattle.rules.specs.Numbers.{groupsBefore, groupsValue, sound, readNumber}
 use Rattle.basics.specs.Readings.{got, bad}
 use Rattle.laws.proofs.NumberLaws.{run-stop, run-more, spell-one, number-got, number-long}
 
@@ -19,7 +19,7 @@ use Rattle.laws.proofs.NumberLaws.{run-stop, run-more, spell-one, number-got, n
 pub record Begun (s : List ℕ) (at j p v : ℕ) : Type 0 where
   pub power : p ≡ 128 ^ j
   pub small : v < p
-  pub more : at + run (drop at s) ≡ at + j + run (drop (at + j) s)
+  pub more : at + groupsBefore (drop at s) ≡ at + j + groupsBefore (drop (at + j) s)
   pub spelt : (e : ℕ) → at + j ≤ e → e ≤ length s → groupsValue (slice at e s) ≡ v + p * groupsValue (slice (at + j) e s)
 
 pub begun : (s : List ℕ) (at : ℕ) → Begun s at 0 1 0
@@ -28,7 +28,7 @@ begun s at =
     record {
       power = refl;
       small = omega arith;
-      more = ap (λ (n : ℕ). n + run (drop n s)) (sym z);
+      more = ap (λ (n : ℕ). n + groupsBefore (drop n s)) (sym z);
       spelt = λ e _ _. omega (arith, ap (λ (n : ℕ). groupsValue (slice n e s)) z);
     }
 
@@ -67,7 +67,7 @@ module _ {s : List ℕ} {at j p v : ℕ} (b : Begun s at j p v) (h : at + j < le
       record {
         power = omega (arith, b .power, pow-succ' 128 j, ap (λ (n : ℕ). 128 ^ n) (add-one j));
         small = group-fits v p (getD s (at + j) 0 % 128) (b .small) (omega arith);
-        more = omega (arith, b .more, run-more s (at + j) h k, ap (λ (n : ℕ). run (drop n s)) x);
+        more = omega (arith, b .more, run-more s (at + j) h k, ap (λ (n : ℕ). groupsBefore (drop n s)) x);
         spelt =
             λ e l m.
             b .spelt e (omega arith) m
@@ -77,7 +77,7 @@ module _ {s : List ℕ} {at j p v : ℕ} (b : Begun s at j p v) (h : at + j < le
       }
 
   module _ (k : getD s (at + j) 0 < 128) where
-    ends : at + j ≡ at + run (drop at s)
+    ends : at + j ≡ at + groupsBefore (drop at s)
     ends = omega (arith, b .more, run-stop s (at + j) h k)
 
     here : at + j - at ≡ j
@@ -102,7 +102,7 @@ sound-alone b = refl
 module _ (s : List ℕ) (at : ℕ) (h : at < length s) where
   pub one-group : getD s at 0 < 128 → readNumber s at ≡ got (getD s at 0) (at + 1)
   one-group k =
-      let q : at ≡ at + run (drop at s) = omega (arith, run-stop s at h k) in
+      let q : at ≡ at + groupsBefore (drop at s) = omega (arith, run-stop s at h k) in
       let z : at - at ≡ 0 = omega arith in
       number-got s at at q h (ap (λ (n : ℕ). sound n (getD s at 0)) z ∙ sound-alone (getD s at 0))
       ∙ ap (λ (n : ℕ). got n (at + 1)) (spell-one s at h k)

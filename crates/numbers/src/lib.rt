@@ -3,7 +3,7 @@ ghost use mathlib.Core.Path.{_≡_};
 ghost use Prim.Native.Nat.{_+_, _-_, _*_, _^_, _≤_, _<_};
 ghost use lib.ListN.{length, drop, getD};
 ghost use lib.Seq.{slice};
-ghost use Rattle.rules.specs.Numbers.{run, groupsValue, sound, readNumber, ranged};
+ghost use Rattle.rules.specs.Numbers.{groupsBefore, groupsValue, sound, readNumber, ranged};
 ghost use Rattle.rules.specs.Reasons.{notThere};
 ghost use Rattle.numbers.specs.Answers.{numOf};
 use rules::reasons::BAD_NUMBER;
@@ -24,7 +24,7 @@ fn wide(x: u8) -> u64
 
 // Where the last group of the number at `at` stands: the first byte below 128, or the end.
 fn last(s: &[u8], at: usize) -> usize
-    ensures { λ r. ⌜ r ≡ at + run (drop at (now (s .entry))) ⌝ }
+    ensures { λ r. ⌜ r ≡ at + groupsBefore (drop at (now (s .entry))) ⌝ }
 {
     let mut i = at;
     while i < s.len() {

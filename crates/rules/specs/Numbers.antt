@@ -9,9 +9,9 @@ use Rattle.basics.specs.Readings.{Reading, got, bad, then}
 use Rattle.rules.specs.Reasons.{tableEnds, badNumber}
 
 -- "top bit set on all but the last group": how many bytes with the top bit set come first.
-unfoldable pub run : List ℕ → ℕ
-run [] = 0
-run (b ∷ bs) = cond (ltb b 128) 0 (suc (run bs))
+unfoldable pub groupsBefore : List ℕ → ℕ
+groupsBefore [] = 0
+groupsBefore (b ∷ bs) = cond (ltb b 128) 0 (suc (groupsBefore bs))
 
 -- "groups of seven bits, lowest group first": what they stand for.
 unfoldable pub groupsValue : List ℕ → ℕ
@@ -31,7 +31,7 @@ numberAt s at k =
     (bad tableEnds at)
 
 abbrev pub readNumber : List ℕ → ℕ → Reading ℕ
-readNumber s at = numberAt s at (run (drop at s))
+readNumber s at = numberAt s at (groupsBefore (drop at s))
 
 -- Refusals 7 and 8, place "same": a number from lo to hi, and the refusal where it is not.
 unfoldable pub inRange : ℕ → ℕ → ℕ → ℕ → ℕ → ℕ → Reading ℕ

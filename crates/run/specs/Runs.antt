@@ -24,7 +24,7 @@ pointOf t cells = record { facts = setOf (t .facts); stack = stackOf cells (t .h
 abbrev pub turnedOf : Turned → List ℕ → Moved
 turnedOf r cells = record { number = r .number; point = pointOf (r .progress) cells }
 
--- The operators that a run counts at most: no plan has so many lines.
+-- The operators that a run counts at most: no plan has so many.
 abbrev pub mostOperators : ℕ
 mostOperators = 65535
 

@@ -105,7 +105,7 @@ pub fn turn(
     }
 }
 
-// What an operator comes to, and its row where the table has it.
+// What an operator comes to, and its row where it is applied.
 pub struct Operated {
     pub row: usize,
     pub turned: Turned,
@@ -210,7 +210,7 @@ pub struct Stepped {
     pub run: Run,
 }
 
-// The same on a run by value.
+// The operator of row `index` at a position, on a run by value.
 pub fn step(run: Run, ops: &[u64], cells: &[u16], index: usize, pos: u64) -> Stepped
     requires { ⌜ ProgressOk (progressOf run) ⌝ }
     requires { ⌜ run .operators < mostOperators ⌝ }

@@ -4,6 +4,7 @@ use mathlib.Core.List.{List}
 use Prim.Native.Nat.{ℕ, suc, _+_, _≤_, _<_}
 use native.Mathlib.Omega.{arith}
 use lib.ListN.{length}
+use Rattle.basics.specs.Texts.{ThreeDigits}
 use Rattle.basics.specs.Lists.{upto}
 use Rattle.rules.specs.Tables.{Table, factCount, taskCount, actionCount, methodCount}
 use Rattle.rules.specs.Operators.{positions}
@@ -23,7 +24,7 @@ use Rattle.section.specs.Operators.{rowTextAt, operatorTextAt, IsCompose
 use Rattle.compose.proofs.FitLaws.{row-text, row-fit}
 
 -- What is asked of a row, for another number, in words of the code.
-pub fit-as : {facts none top free : ℕ} (i k : ℕ) (ops cells : List ℕ) → top ≡ facts → free ≡ none → k < 1000 → Fit facts none i ops cells → Fit top free k ops cells
+pub fit-as : {facts none top free : ℕ} (i k : ℕ) (ops cells : List ℕ) → top ≡ facts → free ≡ none → ThreeDigits k → Fit facts none i ops cells → Fit top free k ops cells
 fit-as i k ops cells p q h x =
     rw (p, q) (record {
       facts = x .facts;

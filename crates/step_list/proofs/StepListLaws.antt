@@ -19,7 +19,7 @@ use Rattle.rows.specs.Rows.{Row, rowAt, RowsFit, Prepared}
 use Rattle.step_list.specs.RowSteps.{rowOperator, rowBytes, rowsSteps, rowsBytes, IsRow, StepsHeld}
 
 -- The two stores of a word.
-pub word-stored : (out : List ℕ) (at word : ℕ) → word < 65536
+pub word-stored : (out : List ℕ) (at word : ℕ) → word < 256 * 256
     → set (set out at (word % 256)) (at + 1) (word / 256 % 256) ≡ sets out at ((word % 256) ∷ (word / 256) ∷ [])
 word-stored out at word l =
     let e : word / 256 % 256 ≡ word / 256 = omega arith in

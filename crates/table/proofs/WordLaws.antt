@@ -9,10 +9,12 @@ use mathlib.Core.Logic.{⊎-elim}
 use lib.ListN.{length, getD, take, set}
 use lib.Dec.{lit<}
 use lib.Seq.{sets, getD-set-same}
+use Rattle.rules.specs.Reasons.{outOfRange, notThere}
+use Rattle.rules.specs.Limits.{mostActions, mostSubtasks}
 use Rattle.basics.specs.Readings.{Reading, got, bad, then, many}
 use Rattle.rules.specs.Numbers.{ranged}
 use Rattle.basics.specs.Lists.{rows}
-use Rattle.words.specs.Words.{headerOf, actionOf, cellOf, methodAt, methodOf, tableOf}
+use Rattle.words.specs.Words.{headerOf, actionOf, cellOf, methodAt, methodOf, tableOf, headerWords, perAction, perMethod, firstMethod}
 use Rattle.rules.specs.Tables.{Header, Method, noMethod, readMethod}
 use Rattle.laws.proofs.StoreLaws.{held, kept, below, kept-less}
 use Rattle.laws.proofs.ListLaws.{rows-length, rows-at, rows-same}
@@ -49,10 +51,10 @@ module _ {A : Type 0} (view : List ℕ → ℕ → A) (p : ℕ → Reading A) (f
       many-more p from k e f ∙ rw (add-one k, rows-same (view w′) (view w) k h)
 
 -- The actions before the k-th are kept.
-pub action-kept : (w w′ : List ℕ) (k : ℕ) → take (7 + 4 * k) w′ ≡ take (7 + 4 * k) w → (j : ℕ) → j < k → actionOf w′ j ≡ actionOf w j
+pub action-kept : (w w′ : List ℕ) (k : ℕ) → take (headerWords + perAction * k) w′ ≡ take (headerWords + perAction * k) w → (j : ℕ) → j < k → actionOf w′ j ≡ actionOf w j
 action-kept w w′ k q j l =
-    let at : (i : ℕ) → i < 7 + 4 * k → getD w′ i 0 ≡ getD w i 0 = below w w′ (7 + 4 * k) q in
-    λ i. record { needs = at (7 + 4 * j) (omega arith) i; adds = at (7 + 4 * j + 1) (omega arith) i; dels = at (7 + 4 * j + 2) (omega arith) i; cost = at (7 + 4 * j + 3) (omega arith) i }
+    let at : (i : ℕ) → i < headerWords + perAction * k → getD w′ i 0 ≡ getD w i 0 = below w w′ (headerWords + perAction * k) q in
+    λ i. record { needs = at (headerWords + perAction * j) (omega arith) i; adds = at (headerWords + perAction * j + 1) (omega arith) i; dels = at (headerWords + perAction * j + 2) (omega arith) i; cost = at (headerWords + perAction * j + 3) (omega arith) i }
 
 -- A word that is stored after j others.
 pub cell-stored : (w : List ℕ) (b j v : ℕ) → b + j < length w → cellOf b (set w (b + j) v) j ≡ v
@@ -75,23 +77,23 @@ put-method w w′ b head n h q =
     )
 
 -- A method that was read has at most eight subtasks.
-few : (s : List ℕ) (lo hi at : ℕ) (m : Method) (n : ℕ) → readMethod s lo hi at ≡ got m n → length (m .subs) ≤ 8
+few : (s : List ℕ) (lo hi at : ℕ) (m : Method) (n : ℕ) → readMethod s lo hi at ≡ got m n → length (m .subs) ≤ mostSubtasks
 unfolding readMethod
 few s lo hi at m n e =
-    each (ranged s lo hi 8 at) _ e λ head p1 e1 g1.
-    each (ranged s 0 8 7 p1) _ g1 λ c p2 e2 g2.
-    each (many (ranged s 0 hi 8) c p2) _ g2 λ subs p3 e3 g3.
+    each (ranged s lo hi notThere at) _ e λ head p1 e1 g1.
+    each (ranged s 0 mostSubtasks outOfRange p1) _ g1 λ c p2 e2 g2.
+    each (many (ranged s 0 hi notThere) c p2) _ g2 λ subs p3 e3 g3.
     let q : record { head = head; subs = subs } ≡ m = cc in
-    let r = many-all (ranged s 0 hi 8) p2 (λ x. x ≤ hi) 0 (λ at x n e. ranged-got _ _ _ _ _ e .1) c e3 in
+    let r = many-all (ranged s 0 hi notThere) p2 (λ x. x ≤ hi) 0 (λ at x n e. ranged-got _ _ _ _ _ e .1) c e3 in
     omega (arith, r .0, ranged-got _ _ _ _ _ e2 .1, ap (λ (x : Method). length (x .subs)) q)
 
 -- The methods before the k-th were read and are kept.
-pub method-kept : (s : List ℕ) (lo hi from : ℕ) (w w′ : List ℕ) (k : ℕ) {at : ℕ} → many (readMethod s lo hi) k from ≡ got (rows (methodOf w) k) at → take (1027 + 10 * k) w′ ≡ take (1027 + 10 * k) w → (j : ℕ) → j < k → methodOf w′ j ≡ methodOf w j
+pub method-kept : (s : List ℕ) (lo hi from : ℕ) (w w′ : List ℕ) (k : ℕ) {at : ℕ} → many (readMethod s lo hi) k from ≡ got (rows (methodOf w) k) at → take (firstMethod + perMethod * k) w′ ≡ take (firstMethod + perMethod * k) w → (j : ℕ) → j < k → methodOf w′ j ≡ methodOf w j
 method-kept s lo hi from w w′ k e q j l =
-    let b : ℕ = 1027 + 10 * j in
+    let b : ℕ = firstMethod + perMethod * j in
     let n : ℕ = getD w (b + 1) 0 in
-    let at : (i : ℕ) → i < 1027 + 10 * k → getD w′ i 0 ≡ getD w i 0 = below w w′ (1027 + 10 * k) q in
-    let f : length (getD (rows (methodOf w) k) j noMethod .subs) ≤ 8 = many-all (readMethod s lo hi) from (λ m. length (m .subs) ≤ 8) noMethod (few s lo hi) k e .1 j l in
+    let at : (i : ℕ) → i < firstMethod + perMethod * k → getD w′ i 0 ≡ getD w i 0 = below w w′ (firstMethod + perMethod * k) q in
+    let f : length (getD (rows (methodOf w) k) j noMethod .subs) ≤ mostSubtasks = many-all (readMethod s lo hi) from (λ m. length (m .subs) ≤ mostSubtasks) noMethod (few s lo hi) k e .1 j l in
     let g : length (getD (rows (methodOf w) k) j noMethod .subs) ≡ n = ap (λ (m : Method). length (m .subs)) (rows-at (methodOf w) noMethod k j l) ∙ rows-length (cellOf (b + 2) w) n in
     let c : rows (cellOf (b + 2) w′) n ≡ rows (cellOf (b + 2) w) n = rows-same (cellOf (b + 2) w′) (cellOf (b + 2) w) n (λ i h. at (b + 2 + i) (omega arith)) in
     let d : rows (cellOf (b + 2) w′) (getD w′ (b + 1) 0) ≡ rows (cellOf (b + 2) w) n = ap (rows (cellOf (b + 2) w′)) (at (b + 1) (omega arith)) ∙ c in
@@ -102,27 +104,27 @@ pub step-map : {A B : Type 0} (f : A → B) (r : Onward) (a : A) → then (onwar
 step-map f (To at) a = refl
 step-map f (Bad why at) a = refl
 
-pub method-got : (s : List ℕ) (lo hi at : ℕ) {head n next from : ℕ} (r : Onward) (xs : List ℕ) → ranged s lo hi 8 at ≡ got head next → ranged s 0 8 7 next ≡ got n from → onwardOf r xs ≡ many (ranged s 0 hi 8) n from → readMethod s lo hi at ≡ onwardOf r (record { head = head; subs = xs })
+pub method-got : (s : List ℕ) (lo hi at : ℕ) {head n next from : ℕ} (r : Onward) (xs : List ℕ) → ranged s lo hi notThere at ≡ got head next → ranged s 0 mostSubtasks outOfRange next ≡ got n from → onwardOf r xs ≡ many (ranged s 0 hi notThere) n from → readMethod s lo hi at ≡ onwardOf r (record { head = head; subs = xs })
 unfolding readMethod
 method-got s lo hi at {head} r xs e f g = rw (e, f, ← g) (step-map {B = Method} (λ ys. record { head = head; subs = ys }) r xs)
 
 -- The header that is stored, and that it is kept.
-pub put-header : (w : List ℕ) (h : Header) → 7 ≤ length w → (w′ : List ℕ) → w′ ≡ sets w 0 (h .facts ∷ h .actions ∷ h .abstracts ∷ h .methods ∷ h .start ∷ h .init ∷ h .goal ∷ []) → headerOf w′ ≡ h
+pub put-header : (w : List ℕ) (h : Header) → headerWords ≤ length w → (w′ : List ℕ) → w′ ≡ sets w 0 (h .facts ∷ h .actions ∷ h .abstracts ∷ h .methods ∷ h .start ∷ h .init ∷ h .goal ∷ []) → headerOf w′ ≡ h
 put-header w h l w′ q =
     let vs : List ℕ = h .facts ∷ h .actions ∷ h .abstracts ∷ h .methods ∷ h .start ∷ h .init ∷ h .goal ∷ [] in
-    let at : (i : ℕ) → i < 7 → getD w′ (0 + i) 0 ≡ getD vs i 0 = λ i k. ap (λ (x : List ℕ). getD x (0 + i) 0) q ∙ held w vs 0 l i k in
+    let at : (i : ℕ) → i < headerWords → getD w′ (0 + i) 0 ≡ getD vs i 0 = λ i k. ap (λ (x : List ℕ). getD x (0 + i) 0) q ∙ held w vs 0 l i k in
     λ i. record { facts = at 0 (lit< tt) i; actions = at 1 (lit< tt) i; abstracts = at 2 (lit< tt) i; methods = at 3 (lit< tt) i; start = at 4 (lit< tt) i; init = at 5 (lit< tt) i; goal = at 6 (lit< tt) i }
 
-pub header-kept : (w w′ : List ℕ) → take 7 w′ ≡ take 7 w → headerOf w′ ≡ headerOf w
+pub header-kept : (w w′ : List ℕ) → take headerWords w′ ≡ take headerWords w → headerOf w′ ≡ headerOf w
 header-kept w w′ q =
-    let at : (i : ℕ) → i < 7 → getD w′ i 0 ≡ getD w i 0 = below w w′ 7 q in
+    let at : (i : ℕ) → i < headerWords → getD w′ i 0 ≡ getD w i 0 = below w w′ headerWords q in
     λ i. record { facts = at 0 (lit< tt) i; actions = at 1 (lit< tt) i; abstracts = at 2 (lit< tt) i; methods = at 3 (lit< tt) i; start = at 4 (lit< tt) i; init = at 5 (lit< tt) i; goal = at 6 (lit< tt) i }
 
 -- The table that the words hold, from what each part left in them.
-pub table-held : (w₁ w₂ w₃ : List ℕ) (h : Header) → headerOf w₁ ≡ h → take 7 w₂ ≡ take 7 w₁ → take 1027 w₃ ≡ take 1027 w₂ → h .actions ≤ 255 → tableOf w₃ ≡ record { head = h; actions = rows (actionOf w₂) (h .actions); methods = rows (methodOf w₃) (h .methods) }
+pub table-held : (w₁ w₂ w₃ : List ℕ) (h : Header) → headerOf w₁ ≡ h → take headerWords w₂ ≡ take headerWords w₁ → take firstMethod w₃ ≡ take firstMethod w₂ → h .actions ≤ mostActions → tableOf w₃ ≡ record { head = h; actions = rows (actionOf w₂) (h .actions); methods = rows (methodOf w₃) (h .methods) }
 table-held w₁ w₂ w₃ h e p q l =
-    let hd : headerOf w₃ ≡ h = header-kept w₂ w₃ (kept-less w₂ w₃ 7 1027 (omega arith) q) ∙ header-kept w₁ w₂ p ∙ e in
+    let hd : headerOf w₃ ≡ h = header-kept w₂ w₃ (kept-less w₂ w₃ headerWords firstMethod (omega arith) q) ∙ header-kept w₁ w₂ p ∙ e in
     let acts : rows (actionOf w₃) (getD w₃ 1 0) ≡ rows (actionOf w₂) (h .actions) =
     ap (λ (x : Header). rows (actionOf w₃) (x .actions)) hd
-    ∙ rows-same (actionOf w₃) (actionOf w₂) (h .actions) (action-kept w₂ w₃ (h .actions) (kept-less w₂ w₃ (7 + 4 * h .actions) 1027 (omega arith) q)) in
+    ∙ rows-same (actionOf w₃) (actionOf w₂) (h .actions) (action-kept w₂ w₃ (h .actions) (kept-less w₂ w₃ (headerWords + perAction * h .actions) firstMethod (omega arith) q)) in
     λ i. record { head = hd i; actions = acts i; methods = rows (methodOf w₃) (hd i .methods) }

@@ -8,8 +8,9 @@ use native.Mathlib.Nat.{mul-suc, le-refl}
 use native.Mathlib.Decide.{decLt}
 use native.Mathlib.Omega.{arith}
 use borrow.Author.Tests.{lt-ltb, le-ltb}
+use Rattle.template.specs.Sizes.{figureCount}
 use Rattle.basics.specs.Lists.{upto}
-use Rattle.basics.specs.Texts.{digit, digits}
+use Rattle.basics.specs.Texts.{digit, digits, ThreeDigits}
 use Rattle.laws.proofs.TextLaws.{digits-one, digits-more}
 use Rattle.text.specs.Appends.{Appends}
 use Rattle.text.proofs.AppendLaws.{appends-is, appends-less, drop-take}
@@ -36,7 +37,7 @@ record Says (f x : List ℕ) : Type 0 where
   front : take (getD f 3 0) f ≡ x
   most : length x ≤ 3
 
-says : (n : ℕ) → n < 1000 → Says (figure n) (digits n)
+says : (n : ℕ) → ThreeDigits n → Says (figure n) (digits n)
 says n h =
     elim (decLt n 10) [
       | yes p ↦ rw (figure-one n p, one n p) (record { four = refl; long = refl; front = refl; most = omega arith })
@@ -101,18 +102,18 @@ four s k h =
     let c : k + 3 ≡ suc (suc (suc k)) = omega arith in
     rw (a, b, c, drop-cons s k 0 (omega arith), drop-cons s (suc k) 0 (omega arith), drop-cons s (suc (suc k)) 0 (omega arith), drop-cons s (suc (suc (suc k))) 0 (omega arith))
 
-module _ (s : List ℕ) (n : ℕ) (h : Figures s 512) (p : n < 512) where
+module _ (s : List ℕ) (n : ℕ) (h : Figures s figureCount) (p : n < figureCount) where
   -- The four bytes of the figure of n.
   read : getD s (n * 4) 0 ∷ getD s (n * 4 + 1) 0 ∷ getD s (n * 4 + 2) 0 ∷ getD s (n * 4 + 3) 0 ∷ [] ≡ figure n
   unfolding Figures
   read =
       let e : n * 4 ≡ 4 * n = omega arith in
-      let room = figures-room s 512 h in
+      let room = figures-room s figureCount h in
       sym (four s (n * 4) (omega arith))
       ∙ ap (λ (k : ℕ). take 4 (drop k s)) e
-      ∙ sym (drop-take s (4 * n) 4 (4 * 512) (omega arith) (omega arith))
+      ∙ sym (drop-take s (4 * n) 4 (4 * figureCount) (omega arith) (omega arith))
       ∙ ap (λ (l : List ℕ). take 4 (drop (4 * n) l)) h
-      ∙ among 512 n p
+      ∙ among figureCount n p
 
   pub figure-size : getD s (n * 4 + 3) 0 ≤ 3
   figure-size =

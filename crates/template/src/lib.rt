@@ -13,7 +13,7 @@ ghost use Rattle.template.specs.Figures.{Figures, figure};
 ghost use Rattle.template.specs.Templates.{PenStands, Drawn, rendered};
 use rules::limits::MOST_BOUND;
 
-// Sizes, with the names that specs/Sizes has for them.
+// Sizes, with the names that specs/Sizes has for them; and how far a move goes before the next one, which overlaps it.
 pub const CHUNK: usize = 32;
 
 const STRIDE: usize = 30;
@@ -32,7 +32,7 @@ pub const OPERATOR_BYTES: usize = 1408;
 
 pub const TEMPLATE_BYTES: usize = OPERATOR_BYTES + MARGIN;
 
-pub const STEP_BYTES: usize = OPERATOR_BYTES * MOST_BOUND as usize;
+pub const STEP_TEXT_BYTES: usize = OPERATOR_BYTES * MOST_BOUND as usize;
 
 // Where a template is being written: the next byte, where the open segment begins, and how many numbers stand before it.
 pub struct Pen {

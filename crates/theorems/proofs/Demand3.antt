@@ -7,6 +7,7 @@ use mathlib.Core.List.{List, [], _∷_, map}
 use native.Mathlib.Omega.{arith}
 use lib.ListN.{length}
 use lib.Dec.{T, eqb, leb, eqb→eq, le→leb, leb→le}
+use Rattle.basics.specs.Texts.{ThreeDigits}
 use Rattle.basics.specs.Answers.{Answer, answer, after}
 use Rattle.rules.specs.Limits.{mostBound, mostTableBytes, mostPlanBytes}
 use Rattle.rules.specs.Reasons.{badBound, badForm, tableTooLong}
@@ -43,7 +44,7 @@ opers-shaped [] = tt
 opers-shaped (o ∷ os) = opers-shaped os
 
 -- The operators of a run have numbers of at most three digits.
-known-small : (t : Table) → Valid t → (x : Step) → Known t x → numberOf x < 1000
+known-small : (t : Table) → Valid t → (x : Step) → Known t x → ThreeDigits (numberOf x)
 known-small t v (act k) h = omega (arith, v .head .actions)
 known-small t v (mth k) h = omega (arith, v .head .methods)
 

@@ -4,7 +4,7 @@ use mathlib.Core.Path.{_≡_, refl}
 use mathlib.Core.List.{List, [], _∷_}
 use Rattle.basics.specs.Answers.{answer, refusal}
 use Rattle.basics.specs.Readings.{many}
-use Rattle.rules.specs.Numbers.{run, groupsValue, sound, numberAt, inRange, ranged}
+use Rattle.rules.specs.Numbers.{groupsBefore, groupsValue, sound, numberAt, inRange, ranged}
 use Rattle.rules.specs.Tables.{header, readAction, readMethod, closed, decode}
 use Rattle.rules.specs.Facts.{without, joinOne, joinFrom, joinOf}
 use Rattle.rules.specs.Operators.{joined, positions}
@@ -40,5 +40,5 @@ pub examples :
     × (checkPlan 1 1 tableU (bytes "(m0 1)\n") ≡ accepted 6 1 3)
     × (checkPlan 2 0 tableU (bytes "(m0 1)\n(a0 2)\n(a0 1)\n") ≡ accepted 6 3 3)
     × (findLeast tableU ≡ answer 2)
-unfolding many run groupsValue sound numberAt inRange ranged header readAction readMethod closed decode without joinOne joinFrom joinOf joined positions linesOf checkLines stepBytes planNumber tableRead opened checkPlan expandPlan leastBound findLeast
+unfolding many groupsBefore groupsValue sound numberAt inRange ranged header readAction readMethod closed decode without joinOne joinFrom joinOf joined positions linesOf checkLines stepBytes planNumber tableRead opened checkPlan expandPlan leastBound findLeast
 examples = (refl, refl, refl, refl, refl, refl, refl, refl, refl, refl, refl, refl, refl, refl)

@@ -8,7 +8,7 @@ use borrow.Author.Tests.{ne-eqb, lt-ltb, le-ltb, ltb-true, ltb-false}
 use lib.Dec.{T, eqb, leb, ltb, le→leb}
 use Rattle.rules.specs.Progression.{Step, act, mth}
 use Rattle.rules.specs.Operators.{Operator}
-use Rattle.basics.specs.Texts.{bytes, digit, digitsF, digits}
+use Rattle.basics.specs.Texts.{bytes, digit, digitsF, digits, ThreeDigits}
 use Rattle.rules.specs.Problems.{nameOf}
 use Rattle.rules.specs.Plans.{oper, isDigit, read, more, number, position, named, lineOf, linesOf, textOf, textsOf}
 use Rattle.laws.proofs.TestLaws.{and-l, and-r, and-i, cond-true, cond-false}
@@ -51,7 +51,7 @@ unfolding digits
 two-digits zero g l = absurd (omega arith)
 two-digits (suc m) g l = more-digits m (suc m) g ∙ ap (λ (ds : List ℕ). ds ++ digit (suc m)) (last-digit m (suc m / 10) (omega arith))
 
-three-digits : (n : ℕ) → 100 ≤ n → n < 1000 → digits n ≡ (48 + n / 10 / 10) ∷ (48 + n / 10 % 10) ∷ (48 + n % 10) ∷ []
+three-digits : (n : ℕ) → 100 ≤ n → ThreeDigits n → digits n ≡ (48 + n / 10 / 10) ∷ (48 + n / 10 % 10) ∷ (48 + n % 10) ∷ []
 unfolding digits
 three-digits zero g l = absurd (omega arith)
 three-digits (suc zero) g l = absurd (omega arith)
@@ -61,7 +61,7 @@ three-digits (suc (suc m)) g l =
     ∙ ap (λ (ds : List ℕ). ds ++ digit n)
     (more-digits m (n / 10) (omega arith) ∙ ap (λ (ds : List ℕ). ds ++ digit (n / 10)) (last-digit m (n / 10 / 10) (omega arith)))
 
-number-digits : (n c : ℕ) (cs : List ℕ) → n < 1000 → T (not (isDigit c)) → number (digits n ++ (c ∷ cs)) ≡ read n (c ∷ cs)
+number-digits : (n c : ℕ) (cs : List ℕ) → ThreeDigits n → T (not (isDigit c)) → number (digits n ++ (c ∷ cs)) ≡ read n (c ∷ cs)
 number-digits zero c cs l h = rw (one-digit 0 (omega arith))
 number-digits (suc n) c cs l h = go (ltb (suc n) 10) refl (ltb (suc n) 100) refl
   where
@@ -99,10 +99,10 @@ regrouped x d = simp append-assoc
 text-of : (o : Operator) → textOf o ≡ 40 ∷ (nameOf (o .what) ++ (32 ∷ (digits (o .at) ++ (41 ∷ []))))
 text-of o = regrouped (nameOf (o .what)) (digits (o .at))
 
-line-of : (o : Operator) → numberOf (o .what) < 1000 → o .at < 1000 → lineOf (textOf o) ≡ oper o
+line-of : (o : Operator) → ThreeDigits (numberOf (o .what)) → ThreeDigits (o .at) → lineOf (textOf o) ≡ oper o
 line-of o l h = ap lineOf (text-of o) ∙ go (o .what) (o .at) l h
   where
-    go : (x : Step) (i : ℕ) → numberOf x < 1000 → i < 1000
+    go : (x : Step) (i : ℕ) → ThreeDigits (numberOf x) → ThreeDigits i
         → lineOf (40 ∷ (nameOf x ++ (32 ∷ (digits i ++ (41 ∷ []))))) ≡ oper (record { what = x; at = i })
     go (act k) i l h = ap (named act) (number-digits k 32 _ l tt) ∙ ap (position (act k)) (number-digits i 41 [] h tt)
     go (mth k) i l h = ap (named mth) (number-digits k 32 _ l tt) ∙ ap (position (mth k)) (number-digits i 41 [] h tt)
@@ -140,7 +140,7 @@ noFeed-text o =
 
 abbrev pub Small : List Operator → Type 0
 Small [] = Unit {0}
-Small (o ∷ os) = (numberOf (o .what) < 1000) × (o .at < 1000) × Small os
+Small (o ∷ os) = ThreeDigits (numberOf (o .what)) × ThreeDigits (o .at) × Small os
 
 pub lines-of : (os : List Operator) → Small os → linesOf (textsOf os) ≡ map oper os
 unfolding linesOf textsOf

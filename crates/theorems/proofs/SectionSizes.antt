@@ -9,7 +9,7 @@ use native.Mathlib.Omega.{arith}
 use lib.Dec.{T, ltb, eqb}
 use lib.ListN.{length, getD, length-append, length-map}
 use Rattle.basics.specs.Lists.{rows, concat}
-use Rattle.basics.specs.Texts.{bytes, digits}
+use Rattle.basics.specs.Texts.{bytes, digits, ThreeDigits}
 use Rattle.version3.specs.Problems.{Setting, Effect, Oper, valuesOf}
 use Rattle.version3.specs.Spelling.{wordLine, numberLine, counted, preamble, spellVariable, spellSetting, spellBefore, spellEffect, middle, spellOper, spell}
 use Rattle.version3.specs.Order.{Each, GoodSetting, Below, GoodEffect}
@@ -38,7 +38,7 @@ Short x = length x ≤ mostSectionBytes
 
 -- ---- words and lines
 
-three : (n : ℕ) → n < 1000 → length (digits n) ≤ 3
+three : (n : ℕ) → ThreeDigits n → length (digits n) ≤ 3
 three n h = digits-le 2 n h
 
 word-line : (x : List ℕ) → length (wordLine x) ≡ length x + 1
@@ -50,7 +50,7 @@ unfolding concat
 all-short g w [] h = omega arith
 all-short g w (x ∷ xs) h = rw (length-append, mul-suc) (omega (arith, all-short g w xs (h .1), h .0))
 
-counted-short : {A : Type 0} (g : A → List ℕ) (w n : ℕ) (xs : List A) → length xs ≤ n → n < 1000 → Each (λ x. length (g x) ≤ w) xs
+counted-short : {A : Type 0} (g : A → List ℕ) (w n : ℕ) (xs : List A) → length xs ≤ n → ThreeDigits n → Each (λ x. length (g x) ≤ w) xs
     → length (counted (map g xs)) ≤ 4 + w * n
 counted-short g w n xs l m h =
     rw (length-append (numberLine (length (map g xs))) (concat (map g xs)), length-map xs g)
@@ -84,7 +84,7 @@ module _ (b : ℕ) (t : Table) (valid : Valid t) (low : b ≤ mostBound) where
 
   -- ---- variables
 
-  names-short : (v : ℕ) → v < 1000 → length (counted (map wordLine (valueNames b t v))) ≤ 1289
+  names-short : (v : ℕ) → ThreeDigits v → length (counted (map wordLine (valueNames b t v))) ≤ 1289
   names-short v l = go (ltb v (factCount t)) (eqb v (factCount t))
     where
       go : (c d : Bool) → length (counted (map wordLine (cond c (factNames v) (cond d (heightNames b) (taskNames t))))) ≤ 1289
@@ -113,7 +113,7 @@ module _ (b : ℕ) (t : Table) (valid : Valid t) (low : b ≤ mostBound) where
   pub variable-short : (v : ℕ) → v < variableCount b t → length (spellVariable (variableOf b t v)) ≤ mostSectionBytes
   unfolding spellVariable variableOf
   variable-short v l =
-      let small : v < 1000 = omega (arith, few-variables) in
+      let small : ThreeDigits v = omega (arith, few-variables) in
       rw (parts-5 (bytes "begin_variable\n") (wordLine (bytes "var" ++ digits v)) (bytes "-1\n") (counted (map wordLine (valueNames b t v))) (bytes "end_variable\n"))
       (omega (arith, word-line (bytes "var" ++ digits v), three v small, names-short v small))
 
@@ -163,7 +163,7 @@ module _ (b : ℕ) (t : Table) (valid : Valid t) (low : b ≤ mostBound) where
             (low-cond (eqb v (factCount t + 1)) (omega (arith, valid .head .start-high, few-tasks)) (omega (arith, few-tasks))))),
       )
     where
-      low-cond : (c : Bool) {x y : ℕ} → x < 1000 → y < 1000 → cond c x y < 1000
+      low-cond : (c : Bool) {x y : ℕ} → ThreeDigits x → ThreeDigits y → ThreeDigits (cond c x y)
       low-cond true p q = p
       low-cond false p q = q
 

@@ -14,7 +14,7 @@ const LONGEST_TABLE: usize = 256 * 256 - 1;
 // The header, the longest table, and a plan one byte too long: what follows is not looked at.
 pub const MOST_INPUT: usize = 4 + LONGEST_TABLE + rules::limits::MOST_PLAN_BYTES + 1;
 
-pub fn judge(input: &[u8]) {
+pub fn tell(input: &[u8]) {
     let mut line = [0u8; report::LINE_ROOM];
     let count = put_verdict(&mut line, input);
     report::send(&line, count);

@@ -5,8 +5,8 @@ use borrow.Author.Needs.{needs}
 use Rattle.frame.proofs.put_fact_variable.Statement.{statement}
 use Rattle.frame.proofs.put_fact_variable.Tie as tie
 
-put-opening-requires : tie.Need-put-opening-requires
-put-opening-requires c κs = search needs
+put-head-requires : tie.Need-put-head-requires
+put-head-requires c κs = search needs
 
 slice-aggregate-put-line : tie.Need-slice-aggregate-put-line
 slice-aggregate-put-line c = search needs
@@ -36,15 +36,15 @@ returns c =
     let p2 = p3 .before .before .before .before .before in
     let p1 = p2 .before .before .before .before .before in (
       appends-is (fact-lines (p1 .before .before .before .args .v))
-          (p1 .put-opening .ensures .0 ▸ p2 .put-line .ensures .0 ▸ p3 .put-line2 .ensures .0 ▸ p4 .put .ensures),
-      omega (arith, p1 .put-opening .ensures .1, p2 .put-line .ensures .1, p3 .put-line2 .ensures .1, p4 .put .ensures .next),
+          (p1 .put-head .ensures .0 ▸ p2 .put-line .ensures .0 ▸ p3 .put-line2 .ensures .0 ▸ p4 .put .ensures),
+      omega (arith, p1 .put-head .ensures .1, p2 .put-line .ensures .1, p3 .put-line2 .ensures .1, p4 .put .ensures .next),
     )
 
 pub put-fact-variable-spec : {M : Type 1} → statement M
 put-fact-variable-spec =
     tie.close
     (tie.spec
-    put-opening-requires
+    put-head-requires
     slice-aggregate-put-line
     put-line-requires
     slice-aggregate-put-line-2

@@ -5,11 +5,11 @@ use borrow.Author.Needs.{needs}
 use Rattle.frame.proofs.put_position_variable.Statement.{statement}
 use Rattle.frame.proofs.put_position_variable.Tie as tie
 
-add-put-opening : tie.Need-add-put-opening
-add-put-opening c = search needs
+add-put-head : tie.Need-add-put-head
+add-put-head c = search needs
 
-put-opening-requires : tie.Need-put-opening-requires
-put-opening-requires c κs = search needs
+put-head-requires : tie.Need-put-head-requires
+put-head-requires c κs = search needs
 
 slice-aggregate-put-names : tie.Need-slice-aggregate-put-names
 slice-aggregate-put-names c = search needs
@@ -32,16 +32,16 @@ returns c =
     let p2 = p3 .before .before .before .before .before in
     let p1 = p2 .before .before .before .before .before in
     let a = p1 .before .before .before .args in (
-      appends-is (position-lines (a .v) (a .tasks)) (p1 .put-opening .ensures .0 ▸ p2 .put-names .ensures .0 ▸ p3 .put .ensures),
-      omega (arith, p1 .put-opening .ensures .1, p2 .put-names .ensures .1, p3 .put .ensures .next),
+      appends-is (position-lines (a .v) (a .tasks)) (p1 .put-head .ensures .0 ▸ p2 .put-names .ensures .0 ▸ p3 .put .ensures),
+      omega (arith, p1 .put-head .ensures .1, p2 .put-names .ensures .1, p3 .put .ensures .next),
     )
 
 pub put-position-variable-spec : {M : Type 1} → statement M
 put-position-variable-spec =
     tie.close
     (tie.spec
-    add-put-opening
-    put-opening-requires
+    add-put-head
+    put-head-requires
     slice-aggregate-put-names
     put-names-requires
     slice-aggregate-put

@@ -8,8 +8,8 @@ use Rattle.frame.proofs.put_top_variable.Tie as tie
 add-heights : tie.Need-add-heights
 add-heights c = search needs
 
-put-opening-requires : tie.Need-put-opening-requires
-put-opening-requires c κs = search needs
+put-head-requires : tie.Need-put-head-requires
+put-head-requires c κs = search needs
 
 slice-aggregate-put-names : tie.Need-slice-aggregate-put-names
 slice-aggregate-put-names c = search needs
@@ -32,8 +32,8 @@ returns c =
     let p2 = p3 .before .before .before .before .before in
     let p1 = p2 .before .before .before .before .before in
     let a = p1 .before .before .before .args in (
-      appends-is (top-lines (a .v) (a .bound)) (p1 .put-opening .ensures .0 ▸ p2 .put-names .ensures .0 ▸ p3 .put .ensures),
-      omega (arith, p1 .put-opening .ensures .1, p2 .put-names .ensures .1, p3 .put .ensures .next),
+      appends-is (top-lines (a .v) (a .bound)) (p1 .put-head .ensures .0 ▸ p2 .put-names .ensures .0 ▸ p3 .put .ensures),
+      omega (arith, p1 .put-head .ensures .1, p2 .put-names .ensures .1, p3 .put .ensures .next),
     )
 
 pub put-top-variable-spec : {M : Type 1} → statement M
@@ -41,7 +41,7 @@ put-top-variable-spec =
     tie.close
     (tie.spec
     add-heights
-    put-opening-requires
+    put-head-requires
     slice-aggregate-put-names
     put-names-requires
     slice-aggregate-put

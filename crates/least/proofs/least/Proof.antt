@@ -1,5 +1,6 @@
 use mathlib.Core.Path.{sym, _∙_}
 use native.Mathlib.Omega.{arith}
+use Rattle.rules.specs.Limits.{mostTasks}
 use Rattle.laws.proofs.RoundLaws.{settled-least}
 use Rattle.words.specs.Words.{tableOf}
 use Rattle.least.proofs.BoundLaws.{ones-kept}
@@ -24,7 +25,7 @@ settle-requires c κs =
     let s = c .before .before .before .before .before .before in
     let n = c .before .before .before .action-count in (
       s .pre,
-      ones-kept (tableOf (s .args .words .now)) 256 (n .result) _ (n .ensures)
+      ones-kept (tableOf (s .args .words .now)) mostTasks (n .result) _ (n .ensures)
           (omega (arith, s .pre .valid .head .actions, s .pre .valid .head .tasks)) (c .before .before .put-ones .ensures),
     )
 

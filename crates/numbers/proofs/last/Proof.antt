@@ -2,14 +2,14 @@ use Prim.Native.Nat.{_<_, _-_, _+_}
 use mathlib.Core.Path.{_≡_}
 use native.Mathlib.Omega.{arith}
 use lib.ListN.{length, drop}
-use Rattle.rules.specs.Numbers.{run}
+use Rattle.rules.specs.Numbers.{groupsBefore}
 use Rattle.laws.proofs.NumberLaws.{run-end, run-stop, run-more}
 use borrow.Author.Needs.{needs}
 use Rattle.numbers.proofs.last.Statement.{statement}
 use Rattle.numbers.proofs.last.Tie as tie
 
 abbrev Inv-loop : tie.InvT-loop
-Inv-loop s at i₀ i = (i + run (drop i s) ≡ at + run (drop at s))
+Inv-loop s at i₀ i = (i + groupsBefore (drop i s) ≡ at + groupsBefore (drop at s))
 
 abbrev μ-loop : tie.MeasureT-loop
 μ-loop s at i₀ i = length s - i

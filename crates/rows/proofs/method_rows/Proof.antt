@@ -2,6 +2,7 @@ use mathlib.Core.Path.{refl, _≡_, ap, sym, subst, _∙_}
 use Prim.Native.Nat.{ℕ, _+_, _-_, _≤_, _<_}
 use native.Mathlib.Omega.{arith}
 use lib.ListN.{length}
+use Rattle.rows.specs.Sizes.{mostRows}
 use Rattle.rules.specs.Tables.{actionCount, methodCount}
 use Rattle.rules.specs.Progression.{Step, mth}
 use Rattle.words.specs.Words.{tableOf}
@@ -52,7 +53,7 @@ method-row-requires c κs =
     let pre = c .before .before .before .before .before .before .before .before .before .pre in
     let v = pre .0 .valid .head in
     let l = c .before .before .before .loop in
-    let few : c .before .before .before .before .before .action-count .result + l .k < 767 = omega (arith, l .inv .0, l .inv .1, v .actions, v .methods) in (
+    let few : c .before .before .before .before .before .action-count .result + l .k < mostRows = omega (arith, l .inv .0, l .inv .1, v .actions, v .methods) in (
       pre .0,
       pre .1,
       omega (arith, l .inv .1),

@@ -1,7 +1,7 @@
 use Rattle.rules.specs.Tables.{Action, readAction}
 use Rattle.basics.specs.Readings.{got, many}
 use Rattle.table.specs.Answers.{actOf}
-use Rattle.words.specs.Words.{actionOf}
+use Rattle.words.specs.Words.{actionOf, headerWords, perAction}
 use Rattle.basics.specs.Lists.{rows}
 use Rattle.laws.proofs.AnswerLaws.{via}
 use Rattle.table.proofs.WordLaws.{many-bad, turn, action-kept}
@@ -15,7 +15,7 @@ use Rattle.table.proofs.read_actions.Statement.{statement}
 use Rattle.table.proofs.read_actions.Tie as tie
 
 abbrev Inv-loop : tie.InvT-loop
-Inv-loop s at words₀ n top k₀ p₀ words k p = (k ≤ n) × (length words ≡ length words₀) × (take 7 words ≡ take 7 words₀) × (many (readAction s top) k at ≡ got (rows (actionOf words) k) p)
+Inv-loop s at words₀ n top k₀ p₀ words k p = (k ≤ n) × (length words ≡ length words₀) × (take headerWords words ≡ take headerWords words₀) × (many (readAction s top) k at ≡ got (rows (actionOf words) k) p)
 
 abbrev μ-loop : tie.MeasureT-loop
 μ-loop s at words₀ n top k₀ p₀ words k p = n - k
@@ -67,7 +67,7 @@ loop-again c =
     let w = put .last .0 in (
       omega arith,
       put .kept .0 ∙ l .inv .1,
-      kept-less (l .words) w 7 (7 + 4 * l .k) (omega arith) (put .ensures .0) ∙ l .inv .2,
+      kept-less (l .words) w headerWords (headerWords + perAction * l .k) (omega arith) (put .ensures .0) ∙ l .inv .2,
       turn actionOf (readAction (a .s .now) (a .top)) (a .at) (l .words) w (l .k) (l .inv .3)
           (via actOf (c .before .before .before .before .before .before .before .read-action .ensures) (c .before .before .before .before .before .a .given .1) ∙ ap (λ (x : Action). got x (c .before .before .before .before .before .a .given .0 .1 .0)) (sym (put .ensures .1)))
           (action-kept (l .words) w (l .k) (put .ensures .0)),

@@ -5,7 +5,7 @@ use native.Mathlib.Omega.{arith}
 use lib.ListN.{length, take}
 use Rattle.basics.specs.Readings.{got, many}
 use Rattle.rules.specs.Tables.{readMethod}
-use Rattle.words.specs.Words.{methodOf}
+use Rattle.words.specs.Words.{methodOf, perMethod, firstMethod}
 use Rattle.basics.specs.Lists.{rows}
 use Rattle.table.specs.Answers.{onwardOf}
 use Rattle.laws.proofs.AnswerLaws.{via}
@@ -16,7 +16,7 @@ use Rattle.table.proofs.read_methods.Statement.{statement}
 use Rattle.table.proofs.read_methods.Tie as tie
 
 abbrev Inv-loop : tie.InvT-loop
-Inv-loop s at words₀ n lo hi k₀ p₀ words k p = (k ≤ n) × (length words ≡ length words₀) × (take 1027 words ≡ take 1027 words₀) × (many (readMethod s lo hi) k at ≡ got (rows (methodOf words) k) p)
+Inv-loop s at words₀ n lo hi k₀ p₀ words k p = (k ≤ n) × (length words ≡ length words₀) × (take firstMethod words ≡ take firstMethod words₀) × (many (readMethod s lo hi) k at ≡ got (rows (methodOf words) k) p)
 
 abbrev μ-loop : tie.MeasureT-loop
 μ-loop s at words₀ n lo hi k₀ p₀ words k p = n - k
@@ -47,7 +47,7 @@ returns c =
     let m = c .before .before .before .before .before .read-method in
     let w = m .last .1 .1 .0 in (
       sym (many-bad (readMethod (a .s .now) (a .lo) (a .hi)) (a .at) (a .n) (l .k) (c .before .before .before .before .before .before .before .loop-test .taken) (l .inv .3) (via (λ (r : Onward). onwardOf r (methodOf w (l .k))) (m .ensures .0) (c .before .why .given .1))),
-      kept-less (l .words) w 1027 (1027 + 10 * l .k) (omega arith) (m .ensures .1) ∙ l .inv .2,
+      kept-less (l .words) w firstMethod (firstMethod + perMethod * l .k) (omega arith) (m .ensures .1) ∙ l .inv .2,
     )
 
 enum-known-next : tie.Need-enum-known-next Inv-loop μ-loop
@@ -67,7 +67,7 @@ loop-again c =
     let w = m .last .1 .1 .0 in (
       omega arith,
       m .kept .1 .1 .0 ∙ l .inv .1,
-      kept-less (l .words) w 1027 (1027 + 10 * l .k) (omega arith) (m .ensures .1) ∙ l .inv .2,
+      kept-less (l .words) w firstMethod (firstMethod + perMethod * l .k) (omega arith) (m .ensures .1) ∙ l .inv .2,
       turn methodOf (readMethod (a .s .now) (a .lo) (a .hi)) (a .at) (l .words) w (l .k) (l .inv .3)
           (via (λ (r : Onward). onwardOf r (methodOf w (l .k))) (m .ensures .0) (c .before .next .given .1))
           (method-kept (a .s .now) (a .lo) (a .hi) (a .at) (l .words) w (l .k) (l .inv .3) (m .ensures .1)),

@@ -3,6 +3,7 @@ use Prim.Native.Nat.{ℕ, _≤_, _-_, _+_}
 use native.Mathlib.Omega.{arith}
 use lib.ListN.{length, take, set, length-set}
 use lib.Seq.{take-set-le}
+use Rattle.rules.specs.Reasons.{notThere}
 use Rattle.basics.specs.Lists.{rows}
 use Rattle.basics.specs.Readings.{got, many}
 use Rattle.rules.specs.Numbers.{ranged}
@@ -15,7 +16,7 @@ use Rattle.table.proofs.read_subtasks.Statement.{statement}
 use Rattle.table.proofs.read_subtasks.Tie as tie
 
 abbrev Inv-loop : tie.InvT-loop
-Inv-loop s at words₀ b n hi j₀ p₀ words j p = (j ≤ n) × (length words ≡ length words₀) × (take b words ≡ take b words₀) × (many (ranged s 0 hi 8) j at ≡ got (rows (cellOf b words) j) p)
+Inv-loop s at words₀ b n hi j₀ p₀ words j p = (j ≤ n) × (length words ≡ length words₀) × (take b words ≡ take b words₀) × (many (ranged s 0 hi notThere) j at ≡ got (rows (cellOf b words) j) p)
 
 abbrev μ-loop : tie.MeasureT-loop
 μ-loop s at words₀ b n hi j₀ p₀ words j p = n - j
@@ -37,7 +38,7 @@ returns : tie.Need-returns Inv-loop μ-loop
 returns c =
     let a = c .before .before .before .before .before .before .before .before .args in
     let l = c .before .before .before .before .before .loop in (
-      sym (many-bad (ranged (a .s .now) 0 (a .hi) 8) (a .at) (a .n) (l .j) (c .before .before .before .before .loop-test .taken) (l .inv .3) (via numOf (c .before .before .before .field .ensures) (c .before .why .given .1))),
+      sym (many-bad (ranged (a .s .now) 0 (a .hi) notThere) (a .at) (a .n) (l .j) (c .before .before .before .before .loop-test .taken) (l .inv .3) (via numOf (c .before .before .before .field .ensures) (c .before .why .given .1))),
       l .inv .2,
     )
 
@@ -68,7 +69,7 @@ loop-again c =
       omega arith,
       length-set (l .words) (a .b + l .j) v ∙ l .inv .1,
       take-set-le (a .b) (l .words) (a .b + l .j) v (omega arith) ∙ l .inv .2,
-      turn (cellOf (a .b)) (ranged (a .s .now) 0 (a .hi) 8) (a .at) (l .words) w (l .j) (l .inv .3)
+      turn (cellOf (a .b)) (ranged (a .s .now) 0 (a .hi) notThere) (a .at) (l .words) w (l .j) (l .inv .3)
           (via numOf (c .before .before .before .field .ensures) (c .before .v .given .1) ∙ ap (λ (x : ℕ). got x (c .before .v .given .0 .1 .0)) (sym (cell-stored (l .words) (a .b) (l .j) v (omega arith))))
           (cell-kept (l .words) w (a .b) (l .j) (take-set-le (a .b + l .j) (l .words) (a .b + l .j) v (omega arith))),
     )
@@ -81,7 +82,7 @@ returns-2 c =
     let a = c .before .before .before .before .args in
     let l = c .before .loop in
     let e : l .j ≡ a .n = omega arith in (
-      sym (subst (λ (m : ℕ). many (ranged (a .s .now) 0 (a .hi) 8) m (a .at) ≡ got (rows (cellOf (a .b) (l .words)) m) (l .p)) e (l .inv .3)),
+      sym (subst (λ (m : ℕ). many (ranged (a .s .now) 0 (a .hi) notThere) m (a .at) ≡ got (rows (cellOf (a .b) (l .words)) m) (l .p)) e (l .inv .3)),
       l .inv .2,
     )
 

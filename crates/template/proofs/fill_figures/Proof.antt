@@ -2,6 +2,7 @@ use Prim.Native.Nat.{ℕ, _*_, _-_, _≤_}
 use mathlib.Core.Path.{_≡_, refl, ap, _∙_}
 use native.Mathlib.Omega.{arith}
 use lib.ListN.{take}
+use Rattle.template.specs.Sizes.{figureCount, figureBytes}
 use Rattle.basics.specs.Lists.{upto}
 use Rattle.laws.proofs.TextLaws.{upto-more}
 use Rattle.text.specs.Appends.{Appends}
@@ -12,10 +13,10 @@ use Rattle.template.proofs.fill_figures.Statement.{statement}
 use Rattle.template.proofs.fill_figures.Tie as tie
 
 abbrev Inv-loop : tie.InvT-loop
-Inv-loop figures₀ at₀ n₀ figures at n = (n ≤ 512) × (at ≡ 4 * n) × Appends figures₀ 0 (upto figure n) figures at
+Inv-loop figures₀ at₀ n₀ figures at n = (n ≤ figureCount) × (at ≡ 4 * n) × Appends figures₀ 0 (upto figure n) figures at
 
 abbrev μ-loop : tie.MeasureT-loop
-μ-loop figures₀ at₀ n₀ figures at n = 512 - n
+μ-loop figures₀ at₀ n₀ figures at n = figureCount - n
 
 loop-holds : tie.Need-loop-holds Inv-loop μ-loop
 unfolding upto
@@ -43,8 +44,8 @@ returns : tie.Need-returns Inv-loop μ-loop
 unfolding Figures
 returns c =
     let l = c .before .loop in
-    let n : l .n ≡ 512 = omega arith in
-    let a : 2048 ≡ l .at = omega (arith, l .inv .1) in
+    let n : l .n ≡ figureCount = omega arith in
+    let a : figureBytes ≡ l .at = omega (arith, l .inv .1) in
     ap (λ (k : ℕ). take k (l .figures)) a ∙ l .inv .2 .text ∙ ap (upto figure) n
 
 pub fill-figures-spec : {M : Type 1} → statement M

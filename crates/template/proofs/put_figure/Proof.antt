@@ -1,4 +1,5 @@
 use native.Mathlib.Omega.{arith}
+use Rattle.template.specs.Sizes.{figureCount}
 use Rattle.template.proofs.FigureLaws.{figures-room, figure-size, figure-appends}
 use borrow.Author.Needs.{needs}
 use Rattle.template.proofs.put_figure.Statement.{statement}
@@ -11,22 +12,22 @@ add-size : tie.Need-add-size
 add-size c = search needs
 
 shared-slice-read-size : tie.Need-shared-slice-read-size
-shared-slice-read-size c = omega (arith, figures-room _ 512 (c .before .before .before .pre .2))
+shared-slice-read-size c = omega (arith, figures-room _ figureCount (c .before .before .before .pre .2))
 
 shared-slice-read-put-four : tie.Need-shared-slice-read-put-four
-shared-slice-read-put-four c = omega (arith, figures-room _ 512 (c .before .before .before .before .before .pre .2))
+shared-slice-read-put-four c = omega (arith, figures-room _ figureCount (c .before .before .before .before .before .pre .2))
 
 add-put-four : tie.Need-add-put-four
 add-put-four c = search needs
 
 shared-slice-read-put-four-2 : tie.Need-shared-slice-read-put-four-2
-shared-slice-read-put-four-2 c = omega (arith, figures-room _ 512 (c .before .before .before .before .before .before .pre .2))
+shared-slice-read-put-four-2 c = omega (arith, figures-room _ figureCount (c .before .before .before .before .before .before .pre .2))
 
 add-put-four-2 : tie.Need-add-put-four-2
 add-put-four-2 c = search needs
 
 shared-slice-read-put-four-3 : tie.Need-shared-slice-read-put-four-3
-shared-slice-read-put-four-3 c = omega (arith, figures-room _ 512 (c .before .before .before .before .before .before .before .pre .2))
+shared-slice-read-put-four-3 c = omega (arith, figures-room _ figureCount (c .before .before .before .before .before .before .before .pre .2))
 
 put-four-requires : tie.Need-put-four-requires
 put-four-requires c κs = search needs

@@ -2,8 +2,8 @@ use native.Mathlib.Omega.{arith}
 use Rattle.text.proofs.AppendLaws.{_▸_, appends-is}
 use Rattle.frame.proofs.FrameLaws.{head-lines}
 use borrow.Author.Needs.{needs}
-use Rattle.frame.proofs.put_opening.Statement.{statement}
-use Rattle.frame.proofs.put_opening.Tie as tie
+use Rattle.frame.proofs.put_head.Statement.{statement}
+use Rattle.frame.proofs.put_head.Tie as tie
 
 slice-aggregate-put-line : tie.Need-slice-aggregate-put-line
 slice-aggregate-put-line c = search needs
@@ -29,8 +29,8 @@ returns c =
       omega (arith, p .put-line .ensures .1, q .put-line2 .ensures .1),
     )
 
-pub put-opening-spec : {M : Type 1} → statement M
-put-opening-spec =
+pub put-head-spec : {M : Type 1} → statement M
+put-head-spec =
     tie.close
     (tie.spec
     slice-aggregate-put-line
