@@ -17,6 +17,13 @@ pub struct Set {
     bits: u64,
 }
 
+// A set as a table's number has it.
+pub fn set_of(number: u64) -> Set
+    ensures { λ r. ⌜ setOf r ≡ number ⌝ }
+{
+    Set { bits: number }
+}
+
 // The set in the words from a place on.
 pub fn get(words: &[u64], at: usize) -> Set
     requires { ⌜ at + setWords ≤ length (now words) ⌝ }

@@ -108,13 +108,7 @@ pub method-got : (s : List ℕ) (lo hi at : ℕ) {head n next from : ℕ} (r : O
 unfolding readMethod
 method-got s lo hi at {head} r xs e f g = rw (e, f, ← g) (step-map {B = Method} (λ ys. record { head = head; subs = ys }) r xs)
 
--- The header that is stored, and that it is kept.
-pub put-header : (w : List ℕ) (h : Header) → headerWords ≤ length w → (w′ : List ℕ) → w′ ≡ sets w 0 (h .facts ∷ h .actions ∷ h .abstracts ∷ h .methods ∷ h .start ∷ h .init ∷ h .goal ∷ []) → headerOf w′ ≡ h
-put-header w h l w′ q =
-    let vs : List ℕ = h .facts ∷ h .actions ∷ h .abstracts ∷ h .methods ∷ h .start ∷ h .init ∷ h .goal ∷ [] in
-    let at : (i : ℕ) → i < headerWords → getD w′ (0 + i) 0 ≡ getD vs i 0 = λ i k. ap (λ (x : List ℕ). getD x (0 + i) 0) q ∙ held w vs 0 l i k in
-    λ i. record { facts = at 0 (lit< tt) i; actions = at 1 (lit< tt) i; abstracts = at 2 (lit< tt) i; methods = at 3 (lit< tt) i; start = at 4 (lit< tt) i; init = at 5 (lit< tt) i; goal = at 6 (lit< tt) i }
-
+-- The header is kept.
 pub header-kept : (w w′ : List ℕ) → take headerWords w′ ≡ take headerWords w → headerOf w′ ≡ headerOf w
 header-kept w w′ q =
     let at : (i : ℕ) → i < headerWords → getD w′ i 0 ≡ getD w i 0 = below w w′ headerWords q in

@@ -226,18 +226,23 @@ fn read_header(s: &[u8]) -> OneHeader
     }
 }
 
-// The header in the first words.
+// The header, into its words.
 fn put_header(words: &mut [u64], h: Header)
     requires { ⌜ headerWords ≤ length (now words) ⌝ }
     ensures { λ _. ⌜ headerOf (now (words .exit)) ≡ headerRead h ⌝ }
 {
-    words[0] = h.facts;
-    words[1] = h.actions;
-    words[2] = h.abstracts;
-    words[3] = h.methods;
-    words[4] = h.start;
-    words[5] = h.init;
-    words[6] = h.goal;
+    let init = facts::set_of(h.init);
+    let goal = facts::set_of(h.goal);
+    words::put_header(
+        words,
+        h.facts,
+        h.actions,
+        h.abstracts,
+        h.methods,
+        h.start,
+        init,
+        goal,
+    );
 }
 
 // The whole table, into its words.

@@ -1,4 +1,4 @@
--- An action that is stored in four words.
+-- An action and a header that are stored.
 use mathlib.Core.Path.{_≡_, ap, sym, _∙_}
 use mathlib.Core.List.{List, [], _∷_}
 use Prim.Native.Nat.{ℕ, _+_, _≤_, _<_}
@@ -7,9 +7,9 @@ use native.Mathlib.Numerals.{towards-suc}
 use lib.ListN.{length, getD, take, set}
 use lib.Dec.{lit<}
 use lib.Seq.{sets}
-use Rattle.rules.specs.Tables.{Action}
+use Rattle.rules.specs.Tables.{Header, Action}
 use Rattle.laws.proofs.StoreLaws.{held, kept}
-use Rattle.words.specs.Words.{actionAt}
+use Rattle.words.specs.Words.{headerWords, headerOf, actionAt}
 
 pub put-action : (w : List ℕ) (b : ℕ) (a : Action) → b + 4 ≤ length w → (w′ : List ℕ) → w′ ≡ set (set (set (set w b (a .needs)) (b + 1) (a .adds)) (b + 2) (a .dels)) (b + 3) (a .cost) → (take b w′ ≡ take b w) × (actionAt w′ b ≡ a)
 put-action w b a h w′ q =
@@ -20,3 +20,10 @@ put-action w b a h w′ q =
       ap (take b) e ∙ kept w vs b h,
       λ i. record { needs = at0 i; adds = at 1 (lit< tt) i; dels = at 2 (lit< tt) i; cost = at 3 (lit< tt) i },
     )
+
+-- A header that is stored.
+pub put-header : (w : List ℕ) (h : Header) → headerWords ≤ length w → (w′ : List ℕ) → w′ ≡ sets w 0 (h .facts ∷ h .actions ∷ h .abstracts ∷ h .methods ∷ h .start ∷ h .init ∷ h .goal ∷ []) → headerOf w′ ≡ h
+put-header w h l w′ q =
+    let vs : List ℕ = h .facts ∷ h .actions ∷ h .abstracts ∷ h .methods ∷ h .start ∷ h .init ∷ h .goal ∷ [] in
+    let at : (i : ℕ) → i < headerWords → getD w′ (0 + i) 0 ≡ getD vs i 0 = λ i k. ap (λ (x : List ℕ). getD x (0 + i) 0) q ∙ held w vs 0 l i k in
+    λ i. record { facts = at 0 (lit< tt) i; actions = at 1 (lit< tt) i; abstracts = at 2 (lit< tt) i; methods = at 3 (lit< tt) i; start = at 4 (lit< tt) i; init = at 5 (lit< tt) i; goal = at 6 (lit< tt) i }

@@ -8,9 +8,16 @@ use Rattle.rules.specs.Tables.{Header, Action, Method, Table}
 use Rattle.laws.specs.Valid.{Valid}
 use Rattle.facts.specs.Sets.{setWords, setAt, actionWords}
 
+-- In a header the sets come after five numbers.
+abbrev pub startWord : ℕ
+startWord = 5
+
+abbrev pub goalWord : ℕ
+goalWord = startWord + setWords
+
 -- How many words a header, an action and a method take; where the methods begin; how many words a table takes.
 abbrev pub headerWords : ℕ
-headerWords = 7
+headerWords = goalWord + setWords
 
 abbrev pub perAction : ℕ
 perAction = actionWords
@@ -32,8 +39,8 @@ headerOf w =
       abstracts = getD w 2 0;
       methods = getD w 3 0;
       start = getD w 4 0;
-      init = setAt w 5;
-      goal = setAt w 6;
+      init = setAt w startWord;
+      goal = setAt w goalWord;
     }
 
 -- The action in the words from b on.

@@ -4,15 +4,19 @@ ghost use Prim.Native.Nat.{_+_, _≤_, _<_};
 ghost use lib.ListN.{length, getD, take};
 ghost use Rattle.rules.specs.Tables.{factCount, actionCount, taskCount, methodCount, startTask, startFacts, goalFacts, action, method};
 ghost use Rattle.facts.specs.Sets.{setOf, actionRead};
-ghost use Rattle.words.specs.Words.{perAction, actionAt, tableOf, Held};
+ghost use Rattle.words.specs.Words.{headerWords, perAction, headerOf, actionAt, tableOf, Held};
 use facts::Action;
 use facts::Set;
 use rules::limits::MOST_ACTIONS;
 use rules::limits::MOST_METHODS;
 
-// How many words a header, an action and a method take; where the methods begin; how many words a table takes. The contracts say
-// them by the names of specs/Words.
-pub const HEADER: usize = 7;
+// Where the sets of a header stand, after five numbers; how many words a header, an action and a method take; where the methods
+// begin; how many words a table takes. The contracts say them by the names of specs/Words.
+const START: usize = 5;
+
+const GOAL: usize = START + facts::WORDS;
+
+pub const HEADER: usize = GOAL + facts::WORDS;
 
 pub const PER_ACTION: usize = facts::ACTION_WORDS;
 
@@ -62,14 +66,14 @@ pub fn start_facts(words: &[u64]) -> Set
     requires { ⌜ Held (now words) ⌝ }
     ensures { λ r. ⌜ setOf r ≡ startFacts (tableOf (now (words .entry))) ⌝ }
 {
-    facts::get(words, 5)
+    facts::get(words, START)
 }
 
 pub fn goal_facts(words: &[u64]) -> Set
     requires { ⌜ Held (now words) ⌝ }
     ensures { λ r. ⌜ setOf r ≡ goalFacts (tableOf (now (words .entry))) ⌝ }
 {
-    facts::get(words, 6)
+    facts::get(words, GOAL)
 }
 
 pub fn action_at(words: &[u64], k: usize) -> Action
@@ -83,6 +87,29 @@ pub fn action_at(words: &[u64], k: usize) -> Action
         dels: facts::get(words, b + 2 * facts::WORDS),
         cost: words[b + 3 * facts::WORDS],
     }
+}
+
+// A header in the first words.
+pub fn put_header(
+    words: &mut [u64],
+    facts: u64,
+    actions: u64,
+    abstracts: u64,
+    methods: u64,
+    start: u64,
+    init: Set,
+    goal: Set,
+)
+    requires { ⌜ headerWords ≤ length (now words) ⌝ }
+    ensures { λ _. ⌜ headerOf (now (words .exit)) ≡ record { facts = facts; actions = actions; abstracts = abstracts; methods = methods; start = start; init = setOf init; goal = setOf goal } ⌝ }
+{
+    words[0] = facts;
+    words[1] = actions;
+    words[2] = abstracts;
+    words[3] = methods;
+    words[4] = start;
+    facts::put(words, START, init);
+    facts::put(words, GOAL, goal);
 }
 
 // An action in the words from b on.

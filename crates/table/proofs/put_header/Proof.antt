@@ -1,49 +1,33 @@
-use native.Mathlib.Omega.{arith}
-use mathlib.Core.Path.{refl}
-use lib.ListN.{length-set}
-use Rattle.table.specs.Answers.{headerRead}
-use Rattle.table.proofs.WordLaws.{put-header}
+use mathlib.Core.Path.{_∙_}
 use borrow.Author.Needs.{needs}
 use Rattle.table.proofs.put_header.Statement.{statement}
 use Rattle.table.proofs.put_header.Tie as tie
 
-slice-write-words : tie.Need-slice-write-words
-slice-write-words c = search needs
+set-of-requires : tie.Need-set-of-requires
+set-of-requires c κs = search needs
 
-slice-write-words-2 : tie.Need-slice-write-words-2
-slice-write-words-2 c = simp length-set (omega arith)
+set-of-requires-2 : tie.Need-set-of-requires-2
+set-of-requires-2 c κs = search needs
 
-slice-write-words-3 : tie.Need-slice-write-words-3
-slice-write-words-3 c = simp length-set (omega arith)
-
-slice-write-words-4 : tie.Need-slice-write-words-4
-slice-write-words-4 c = simp length-set (omega arith)
-
-slice-write-words-5 : tie.Need-slice-write-words-5
-slice-write-words-5 c = simp length-set (omega arith)
-
-slice-write-words-6 : tie.Need-slice-write-words-6
-slice-write-words-6 c = simp length-set (omega arith)
-
-slice-write-words-7 : tie.Need-slice-write-words-7
-slice-write-words-7 c = simp length-set (omega arith)
+put-header-requires : tie.Need-put-header-requires
+put-header-requires c κs = search needs
 
 same-length : tie.Need-same-length
 same-length c = search needs
 
 returns : tie.Need-returns
-returns c = put-header (c .args .words .now) (headerRead (c .args .h)) (c .pre) _ refl
+returns c = let a = c .before .before .before .before .before .before .before .args in
+    c .before .before .put-header .ensures
+    ∙ (λ i. record {
+      facts = a .h .facts;
+      actions = a .h .actions;
+      abstracts = a .h .abstracts;
+      methods = a .h .methods;
+      start = a .h .start;
+      init = c .before .before .before .before .before .set-of .ensures i;
+      goal = c .before .before .before .before .set-of2 .ensures i;
+    })
 
 pub put-header-spec : {M : Type 1} → statement M
 put-header-spec =
-    tie.close
-    (tie.spec
-    slice-write-words
-    slice-write-words-2
-    slice-write-words-3
-    slice-write-words-4
-    slice-write-words-5
-    slice-write-words-6
-    slice-write-words-7
-    same-length
-    returns)
+    tie.close (tie.spec set-of-requires set-of-requires-2 put-header-requires same-length returns)
