@@ -22,7 +22,9 @@ loop-holds : tie.Need-loop-holds Inv-loop μ-loop
 loop-holds c = search needs
 
 fill-requires : tie.Need-fill-requires Inv-loop μ-loop
-fill-requires c κs = search needs
+fill-requires c κs = let p = c .before .before .before .before .before .before .before .pre in
+    let l = c .before .before .loop .inv in
+    ((p .0, p .1, p .2, omega (arith, p .3, l .1)), omega (arith, l .2, c .before .loop-test .taken))
 
 send-requires : tie.Need-send-requires Inv-loop μ-loop
 send-requires c κs = search needs
