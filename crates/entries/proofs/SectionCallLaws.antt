@@ -10,12 +10,12 @@ use borrow.Author.Tests.{le-leb, lt-leb}
 use borrow.Rule.Slice.PartMut.{putMid}
 use lib.Dec.{leb}
 use lib.ListN.{length, take, drop, length-drop, take-append-drop, drop-of-length-le}
-use lib.Seq.{sets, sets-eq, take-all, drop-drop}
+use lib.Seq.{sets, take-all, drop-drop}
 use Rattle.basics.specs.Answers.{Answer, answer, refusal, check, after, lengthOf}
 use Rattle.rules.specs.Limits.{mostSectionBytes}
 use Rattle.rules.specs.Reasons.{noRoom}
 use Rattle.rules.specs.Refusals.{roomOf, roomFor, written}
-use Rattle.laws.proofs.RefusalLaws.{room-short, room-fits, room-length}
+use Rattle.laws.proofs.RefusalLaws.{stores-written, room-short, room-fits, room-length}
 use Rattle.section.specs.Chosen.{Begins}
 
 -- ---- room
@@ -58,11 +58,10 @@ put-fits (refusal number place) size {n} e l = refl
 -- Its bytes copied.
 pub put-written : (x : Answer (List ℕ)) (space old new : List ℕ) {n : ℕ} → lengthOf x ≡ answer n → Begins x space → n ≤ length old
     → new ≡ sets old 0 (take n space) → new ≡ written old 0 x
-unfolding written
 put-written (answer x) space old new {n} e h l q =
     let p : n ≡ length x = cc in
     q ∙ ap (λ (m : ℕ). sets old 0 (take m space)) p ∙ ap (sets old 0) (h .0)
-    ∙ sets-eq x old 0 (omega arith) ∙ append-assoc (take 0 old) x (drop (0 + length x) old)
+    ∙ stores-written old x 0 (omega arith)
 put-written (refusal number place) space old new {n} e h l q = let z : _≡_ {A = ℕ} 0 1 = cc in absurd (omega arith)
 
 -- ---- the part of a text from a place on

@@ -13,6 +13,7 @@ use mathlib.Core.Bool.{Bool, true, false, cond}
 use lib.Dec.{ltb, leb, eqb, lit<}
 use lib.ListN.{length, take, drop, getD, drop-of-length-le, length-drop}
 use lib.Seq.{drop-cons, slice, slice-cons, slice-empty, getD-drop}
+use Rattle.rules.specs.Reasons.{tableEnds, badNumber}
 use Rattle.rules.specs.Numbers.{groupsBefore, groupsValue, sound, numberAt, readNumber, inRange, ranged}
 use Rattle.basics.specs.Readings.{Reading, got, bad, then}
 
@@ -95,11 +96,11 @@ module _ (s : List ℕ) (at e : ℕ) (q : e ≡ at + groupsBefore (drop at s)) w
       let l : groupsBefore (drop at s) < length (drop at s) = rw (length-drop at s) (omega arith) in
       rw (q, ← getD-drop at s (groupsBefore (drop at s)) 0) (run-below (drop at s) l)
 
-  pub number-ends : length s ≤ e → readNumber s at ≡ bad 5 at
+  pub number-ends : length s ≤ e → readNumber s at ≡ bad tableEnds at
   unfolding numberAt
   number-ends h = rw (← q, le-ltb e (length s) h)
 
-  pub number-long : e < length s → sound (e - at) (getD s e 0) ≡ false → readNumber s at ≡ bad 6 at
+  pub number-long : e < length s → sound (e - at) (getD s e 0) ≡ false → readNumber s at ≡ bad badNumber at
   unfolding numberAt
   number-long h t =
       let k : groupsBefore (drop at s) ≡ e - at = omega arith in

@@ -8,15 +8,17 @@ use native.Mathlib.Omega.{arith}
 use borrow.Author.Tests.{le-leb, lt-leb, eq-eqb, ne-eqb}
 use lib.Dec.{leb}
 use lib.ListN.{length}
+use lib.Seq.{sets}
 use Rattle.basics.specs.Answers.{answer, refusal, check, after, lengthOf}
 use Rattle.basics.specs.Readings.{Reading, got, bad}
 use Rattle.rules.specs.Limits.{mostBound, mostTableBytes, mostPlanBytes}
 use Rattle.rules.specs.Reasons.{badBound, badForm, tableTooLong, planTooLong, noRoom}
 use Rattle.rules.specs.Tables.{Table, decode}
-use Rattle.rules.specs.Refusals.{readOf, tableRead, opened, planNumber, roomOf, roomFor}
+use Rattle.rules.specs.Refusals.{readOf, tableRead, opened, planNumber, roomOf, roomFor, written}
 use Rattle.laws.specs.Valid.{Valid}
 use Rattle.laws.proofs.AnswerLaws.{refused}
 use Rattle.laws.proofs.TableLaws.{valid}
+use Rattle.laws.proofs.StoreLaws.{stored}
 
 module _ (late : ℕ) (s : List ℕ) where
   pub table-long : mostTableBytes < length s → tableRead late s ≡ refusal tableTooLong 0
@@ -81,6 +83,11 @@ module _ (size at : ℕ) (x : List ℕ) where
 
   pub room-fits : at + length x ≤ size → roomFor size at x ≡ answer x
   room-fits h = rw (le-leb (at + length x) size h)
+
+-- What is stored from a place on is written.
+pub stores-written : (old x : List ℕ) (at : ℕ) → at + length x ≤ length old → sets old at x ≡ written old at (answer x)
+unfolding written
+stores-written old x at h = stored old x at h
 
 -- What there is to write has room by its length alone.
 pub room-length : (size at : ℕ) (x : List ℕ) → lengthOf (roomFor size at x) ≡ roomOf size at (length x)

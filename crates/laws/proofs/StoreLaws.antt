@@ -6,19 +6,22 @@ use native.Mathlib.Omega.{arith}
 use lib.ListN.{length, getD, take, drop, List·getD-append}
 use lib.Seq.{take-take, sets, sets-eq, length-take-le, take-at, getD-append-add, getD-take}
 
--- A run of stores from b on: what is held there, and what is kept before.
+-- A run of stores from b on: all of it, what is held there, and what is kept before.
 module _ (w vs : List ℕ) (b : ℕ) (h : b + length vs ≤ length w) where
+  pub stored : sets w b vs ≡ take b w ++ (vs ++ drop (b + length vs) w)
+  stored = sets-eq vs w b h ∙ append-assoc (take b w) vs (drop (b + length vs) w)
+
   pub held : (i : ℕ) → i < length vs → getD (sets w b vs) (b + i) 0 ≡ getD vs i 0
   held i k =
       let t : length (take b w) ≡ b = length-take-le b w (omega arith) in
-      ap (λ (l : List ℕ). getD l (b + i) 0) (sets-eq vs w b h ∙ append-assoc (take b w) vs (drop (b + length vs) w))
+      ap (λ (l : List ℕ). getD l (b + i) 0) stored
       ∙ ap (λ (n : ℕ). getD (take b w ++ (vs ++ drop (b + length vs) w)) (n + i) 0) (sym t)
       ∙ getD-append-add (take b w) (vs ++ drop (b + length vs) w) i 0
       ∙ List·getD-append vs (drop (b + length vs) w) 0 i k
 
   pub kept : take b (sets w b vs) ≡ take b w
   kept =
-      ap (take b) (sets-eq vs w b h ∙ append-assoc (take b w) vs (drop (b + length vs) w))
+      ap (take b) stored
       ∙ take-at (take b w) (vs ++ drop (b + length vs) w) b (length-take-le b w (omega arith))
 
 -- What stands below b is kept.

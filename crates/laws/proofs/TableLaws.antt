@@ -9,7 +9,7 @@ use lib.Dec.{ltb}
 use native.Mathlib.Nat.{eq-or-lt-of-le}
 use Prim.Native.Nat.{ℕ, zero, suc, _+_, _-_, _≤_, _<_}
 use native.Mathlib.Omega.{arith}
-use Rattle.rules.specs.Reasons.{outOfRange, notThere}
+use Rattle.rules.specs.Reasons.{outOfRange, notThere, bytesAfterTable}
 use Rattle.rules.specs.Limits.{mostFacts, mostActions, mostTasks, mostMethods, mostSubtasks, mostCost}
 use Rattle.basics.specs.Readings.{Reading, got, bad, then, many}
 use Rattle.rules.specs.Numbers.{ranged}
@@ -102,7 +102,7 @@ good-method s h at m n e =
 closed-got : (s : List ℕ) (t u : Table) (at n : ℕ) (b : Bool) → ltb at (length s) ≡ b → closed s t at ≡ got u n → t ≡ u
 unfolding closed
 closed-got s t u at n true e h =
-    let g : bad 9 at ≡ got u n = rw e at h in
+    let g : bad bytesAfterTable at ≡ got u n = rw e at h in
     let z : _≡_ {A = ℕ} 0 1 = cc in absurd (omega arith)
 closed-got s t u at n false e h =
     let g : got t at ≡ got u n = rw e at h in

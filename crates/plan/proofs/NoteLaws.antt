@@ -6,7 +6,7 @@ use mathlib.Core.List.{List, [], _∷_, _++_, map, map-append, append-nil, appen
 use native.Mathlib.Omega.{arith}
 use native.Mathlib.Decide.{decLt}
 use lib.ListN.{length, getD, set, take, drop, length-set, length-append}
-use lib.Seq.{sets, sets-eq, getD-set-same, getD-set-other, take-suc-set, length-take-le, getD-take}
+use lib.Seq.{sets, getD-set-same, getD-set-other, take-suc-set, length-take-le, getD-take}
 use Rattle.basics.specs.Answers.{Answer, numberOf, valueOf, check, after}
 use Rattle.rules.specs.declared.Verdict.{Verdict}
 use Rattle.rules.specs.declared.Verdict.the-variants.{Accepted, Refused}
@@ -19,7 +19,7 @@ use Rattle.rules.specs.Plans.{Line, note, oper, linesOf, opersOf}
 use Rattle.rules.specs.Checks.{Tally, accepted, operatorsIn, stepsIn, verdictOf, finish, checkLines, stepBytes}
 use Rattle.rules.specs.Refusals.{roomFor, stepsFor, written}
 use Rattle.laws.proofs.StepLaws.{bytes-length}
-use Rattle.laws.proofs.RefusalLaws.{room-short, room-fits}
+use Rattle.laws.proofs.RefusalLaws.{stores-written, room-short, room-fits}
 use Rattle.laws.specs.Steps.{stepAt, kindStep, kindOperator}
 use Rattle.lines.specs.Lines.{OperatorLine, CommentLine}
 use Rattle.lines.proofs.PlaceLaws.{no-line}
@@ -128,9 +128,8 @@ module _ {f : ℕ} {t : Table} {notes : List ℕ} {operators steps : ℕ} (h : N
   notes-kept old l = sym (ap (written old 0) (room-short (length old) 0 the-bytes (omega (arith, notes-long))))
 
   pub notes-written : (old : List ℕ) {new : List ℕ} → 2 * steps ≤ length old → new ≡ sets old 0 the-bytes → new ≡ written old 0 (roomFor (length old) 0 the-bytes)
-  unfolding written
   notes-written old l e =
-      e ∙ sets-eq the-bytes old 0 (omega (arith, notes-long)) ∙ append-assoc (take 0 old) the-bytes (drop (0 + length the-bytes) old)
+      e ∙ stores-written old the-bytes 0 (omega (arith, notes-long))
       ∙ ap (written old 0) (sym (room-fits (length old) 0 the-bytes (omega (arith, notes-long))))
 
 -- They are those of the plan's lines.

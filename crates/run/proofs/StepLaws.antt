@@ -8,6 +8,7 @@ use native.Mathlib.Omega.{arith}
 use borrow.Author.Tests.{le-ltb, lt-ltb, le-leb, lt-leb}
 use lib.Dec.{T, eqb, leb}
 use lib.ListN.{length, length-map}
+use Rattle.rules.specs.Reasons.{notEmitted, notApplicable}
 use Rattle.rules.specs.Tables.{Table, actionCount, methodCount}
 use Rattle.rules.specs.Facts.{holds, changed}
 use Rattle.rules.specs.Progression.{State, Step, act, mth, onTop, fits, allowed, allAllowed, afterAll, totalCost}
@@ -88,16 +89,16 @@ module _ (f : ℕ) (t : Table) where
             (sym (step-after f t x s)) (sym (length-map (company f t x) act))
 
         go : (c : Bool) → (T c → T (not (joined f t x .dead)))
-            → cond c (cond (eqb pos (length (p .stack)) && (onTop (taskOf t x) (p .stack) && holds (joined f t x .needs) (p .facts))) done (refused 13 p)) (refused 12 p)
+            → cond c (cond (eqb pos (length (p .stack)) && (onTop (taskOf t x) (p .stack) && holds (joined f t x .needs) (p .facts))) done (refused notApplicable p)) (refused notEmitted p)
             ≡ cond c (cond (eqb pos (length (p .stack)) && allAllowed t s (x ∷ map act (company f t x)))
             (reached p (afterAll t s (x ∷ map act (company f t x))) (length (x ∷ map act (company f t x))) (totalCost t (x ∷ map act (company f t x))))
-            (refused 13 p)) (refused 12 p)
+            (refused notApplicable p)) (refused notEmitted p)
         go false d = refl
         go true d =
-            ap₂ (λ (runs : Bool) (m : Moved). cond (eqb pos (length (p .stack)) && runs) m (refused 13 p))
+            ap₂ (λ (runs : Bool) (m : Moved). cond (eqb pos (length (p .stack)) && runs) m (refused notApplicable p))
             (step-allowed x l (d tt) s) done-document
 
-    pub step-unknown : (Known t x → ⊥) → documentStep b f t (record { what = x; at = pos }) p ≡ refused 12 p
+    pub step-unknown : (Known t x → ⊥) → documentStep b f t (record { what = x; at = pos }) p ≡ refused notEmitted p
     unfolding documentStep
     step-unknown n = rw (unknown-emitted b x pos n)
 
@@ -112,10 +113,10 @@ check-step b f t n p o ls = go (emitted b f t o) (applies f t (stateOf p) o)
     after : Moved
     after = reached p (afterAll t (stateOf p) (expand f t o)) (length (expand f t o)) (totalCost t (expand f t o))
 
-    go : (c d : Bool) → cond c (cond d (checkFrom b f t (checkAt (suc n) (after .point)) ls) (refusal 13 (suc n))) (refusal 12 (suc n))
-        ≡ cond (eqb (cond c (cond d after (refused 13 p)) (refused 12 p) .number) 0)
-        (checkFrom b f t (checkAt (suc n) (cond c (cond d after (refused 13 p)) (refused 12 p) .point)) ls)
-        (refusal (cond c (cond d after (refused 13 p)) (refused 12 p) .number) (suc n))
+    go : (c d : Bool) → cond c (cond d (checkFrom b f t (checkAt (suc n) (after .point)) ls) (refusal notApplicable (suc n))) (refusal notEmitted (suc n))
+        ≡ cond (eqb (cond c (cond d after (refused notApplicable p)) (refused notEmitted p) .number) 0)
+        (checkFrom b f t (checkAt (suc n) (cond c (cond d after (refused notApplicable p)) (refused notEmitted p) .point)) ls)
+        (refusal (cond c (cond d after (refused notApplicable p)) (refused notEmitted p) .number) (suc n))
     go true true = refl
     go true false = refl
     go false d = refl

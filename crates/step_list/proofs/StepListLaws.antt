@@ -16,7 +16,7 @@ use Rattle.laws.proofs.JoinedPrefix.{prefix-whole}
 use Rattle.laws.proofs.CountLaws.{prefix-short}
 use Rattle.words.specs.Words.{tableOf, Held}
 use Rattle.rows.specs.Rows.{Row, rowAt, RowsFit, Prepared}
-use Rattle.step_list.specs.RowSteps.{rowOperator, rowBytes, rowsSteps, rowsBytes, IsRow, StepsHeld}
+use Rattle.step_list.specs.RowSteps.{rowOperator, rowBytes, rowsSteps, rowsBytes, IsRow, StepsHeld, MethodRow}
 
 -- The two stores of a word.
 pub word-stored : (out : List ℕ) (at word : ℕ) → word < 256 * 256
@@ -66,15 +66,7 @@ module _ (f : ℕ) (t : Table) (i : ℕ) where
 pub prepared-steps : {f : ℕ} {t : Table} {b : ℕ} {ops cells : List ℕ} → Prepared b f t ops cells → StepsHeld f t ops cells
 prepared-steps r = record { fits = r .fits; steps = λ k l. ap (λ (row : Row). row .steps) (r .methods k l) }
 
--- What row i of method k says, and what its steps come to.
-pub record MethodRow (f : ℕ) (t : Table) (ops cells : List ℕ) (i k : ℕ) : Type 0 where
-  pub known : k < methodCount t
-  pub few-methods : methodCount t ≤ mostMethods
-  pub within : RowsFit (i + 1) ops cells
-  pub steps : rowAt ops cells i .steps ≡ suc (length (prefix f t k))
-  pub short : length (prefix f t k) ≤ length (method t k .subs)
-  pub size : length (rowBytes f t i) ≡ 2 + 2 * length (prefix f t k)
-
+-- What the row of a method says, and what its steps come to.
 pub method-row : (f : ℕ) (w ops cells : List ℕ) (i k : ℕ) → Held w → StepsHeld f (tableOf w) ops cells → IsRow (tableOf w) i
     → actionCount (tableOf w) ≤ i → k ≡ i - actionCount (tableOf w) → MethodRow f (tableOf w) ops cells i k
 method-row f w ops cells i k h s l n o =
@@ -85,6 +77,8 @@ method-row f w ops cells i k h s l n o =
     let d = length-map (take (length (prefix f t k)) (method t k .subs)) act in
     let c = length-take-le (length (prefix f t k)) (method t k .subs) (prefix-short f t k) in
     record {
+      past = n;
+      its = o;
       known = m;
       few-methods = h .valid .head .methods;
       within = record { in-words = omega (arith, s .fits .in-words, l); in-cells = omega (arith, s .fits .in-cells, l) };
@@ -94,15 +88,15 @@ method-row f w ops cells i k h s l n o =
     }
 
 -- A method's word and its prefix after it.
-pub method-put : (f : ℕ) (t : Table) (i k p : ℕ) (out mid new : List ℕ) (at : ℕ) → actionCount t ≤ i → k ≡ i - actionCount t → length (prefix f t k) ≡ p
+pub method-put : {f : ℕ} {t : Table} {ops cells : List ℕ} {i k : ℕ} → MethodRow f t ops cells i k → (p : ℕ) (out mid new : List ℕ) (at : ℕ) → length (prefix f t k) ≡ p
     → mid ≡ sets out at (((methodWords + k) % 256) ∷ ((methodWords + k) / 256) ∷ [])
     → new ≡ sets mid (at + 2) (stepBytes (map act (take p (method t k .subs))))
     → new ≡ sets out at (rowBytes f t i)
-method-put f t i k p out mid new at l o e m n =
+method-put {f} {t} {i = i} {k} h p out mid new at e m n =
     n
     ∙ ap (λ (bs : List ℕ). sets bs (at + 2) (stepBytes (map act (take p (method t k .subs))))) m
     ∙ sets-append (((methodWords + k) % 256) ∷ ((methodWords + k) / 256) ∷ []) (stepBytes (map act (take p (method t k .subs)))) out at
-    ∙ ap (sets out at) (sym (method-bytes f t i l k p o e))
+    ∙ ap (sets out at) (sym (method-bytes f t i (h .past) k p (h .its) e))
 
 -- From row n on: the bytes of the rows that are left, written from `end` on, have room and give the whole.
 pub record Writing (f : ℕ) (t : Table) (rows whole : List ℕ) (n end : ℕ) (out : List ℕ) : Type 0 where

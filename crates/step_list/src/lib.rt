@@ -8,7 +8,7 @@ ghost use Rattle.rules.specs.Tables.{methodCount, method};
 ghost use Rattle.rules.specs.Progression.{act};
 ghost use Rattle.rules.specs.Checks.{stepBytes};
 ghost use Rattle.words.specs.Words.{tableOf, Held};
-ghost use Rattle.step_list.specs.RowSteps.{rowBytes, rowsBytes, IsRow, AllRows, StepsHeld};
+ghost use Rattle.step_list.specs.RowSteps.{rowBytes, rowsBytes, IsRow, AllRows, StepsHeld, MethodRow};
 use rows::row;
 use rules::limits;
 
@@ -34,6 +34,29 @@ fn put_prefix(words: &[u64], k: usize, p: usize, out: &mut [u8], at: usize)
     }
 }
 
+// A method's steps, from its row: its own word, then its prefix. The place after them.
+fn put_method(
+    words: &[u64],
+    form: u64,
+    ops: &[u64],
+    cells: &[u16],
+    row: usize,
+    k: usize,
+    out: &mut [u8],
+    at: usize,
+) -> usize
+    requires { ⌜ Held (now words) × MethodRow form (tableOf (now words)) (now ops) (now cells) row k ⌝ }
+    requires { ⌜ at + length (rowBytes form (tableOf (now words)) row) ≤ length (now out) ⌝ }
+    ensures { λ r. ⌜ r ≡ at + length (rowBytes form (tableOf (now (words .entry))) row) ⌝ }
+    ensures { λ _. ⌜ now (out .exit) ≡ sets (now (out .entry)) at (rowBytes form (tableOf (now (words .entry))) row) ⌝ }
+{
+    put_word(out, at, limits::METHOD_WORDS + k as u64);
+    let steps = row::steps(ops, cells, row) as usize;
+    let p = steps - 1;
+    put_prefix(words, k, p, out, at + 2);
+    at + 2 + 2 * p
+}
+
 // The steps of one row's operator, and the place after them.
 fn put_steps(
     words: &[u64],
@@ -55,11 +78,7 @@ fn put_steps(
         return at + 2;
     }
     let k = row - actions;
-    put_word(out, at, limits::METHOD_WORDS + k as u64);
-    let steps = row::steps(ops, cells, row) as usize;
-    let p = steps - 1;
-    put_prefix(words, k, p, out, at + 2);
-    at + 2 + 2 * p
+    put_method(words, form, ops, cells, row, k, out, at)
 }
 
 // The steps of all rows in turn, from the start of the bytes on.

@@ -16,6 +16,7 @@ use Rattle.rules.specs.Numbers.{ranged}
 use Rattle.basics.specs.Lists.{rows}
 use Rattle.words.specs.Words.{headerOf, actionOf, cellOf, methodAt, methodOf, tableOf, headerWords, perAction, perMethod, firstMethod}
 use Rattle.rules.specs.Tables.{Header, Method, noMethod, readMethod}
+use Rattle.words.proofs.PutLaws.{same-header}
 use Rattle.laws.proofs.StoreLaws.{held, kept, below, kept-less}
 use Rattle.laws.proofs.ListLaws.{rows-length, rows-at, rows-same}
 use Rattle.laws.proofs.NumberLaws.{ranged-got}
@@ -110,9 +111,7 @@ method-got s lo hi at {head} r xs e f g = rw (e, f, ← g) (step-map {B = Method
 
 -- The header is kept.
 pub header-kept : (w w′ : List ℕ) → take headerWords w′ ≡ take headerWords w → headerOf w′ ≡ headerOf w
-header-kept w w′ q =
-    let at : (i : ℕ) → i < headerWords → getD w′ i 0 ≡ getD w i 0 = below w w′ headerWords q in
-    λ i. record { facts = at 0 (lit< tt) i; actions = at 1 (lit< tt) i; abstracts = at 2 (lit< tt) i; methods = at 3 (lit< tt) i; start = at 4 (lit< tt) i; init = at 5 (lit< tt) i; goal = at 6 (lit< tt) i }
+header-kept w w′ q = same-header w w′ (below w w′ headerWords q)
 
 -- The table that the words hold, from what each part left in them.
 pub table-held : (w₁ w₂ w₃ : List ℕ) (h : Header) → headerOf w₁ ≡ h → take headerWords w₂ ≡ take headerWords w₁ → take firstMethod w₃ ≡ take firstMethod w₂ → h .actions ≤ mostActions → tableOf w₃ ≡ record { head = h; actions = rows (actionOf w₂) (h .actions); methods = rows (methodOf w₃) (h .methods) }

@@ -4,12 +4,13 @@ use mathlib.Core.List.{List, [], _∷_}
 use Prim.Native.Nat.{ℕ, _+_, _≤_, _<_}
 use native.Mathlib.Nat.{add-zero}
 use native.Mathlib.Numerals.{towards-suc}
+use native.Mathlib.Omega.{arith}
 use lib.ListN.{length, getD, take, set}
 use lib.Dec.{lit<}
 use lib.Seq.{sets}
 use Rattle.rules.specs.Tables.{Header, Action}
 use Rattle.laws.proofs.StoreLaws.{held, kept}
-use Rattle.words.specs.Words.{headerWords, headerOf, actionAt}
+use Rattle.words.specs.Words.{startWord, goalWord, headerWords, headerOf, actionAt}
 
 pub put-action : (w : List ℕ) (b : ℕ) (a : Action) → b + 4 ≤ length w → (w′ : List ℕ) → w′ ≡ set (set (set (set w b (a .needs)) (b + 1) (a .adds)) (b + 2) (a .dels)) (b + 3) (a .cost) → (take b w′ ≡ take b w) × (actionAt w′ b ≡ a)
 put-action w b a h w′ q =
@@ -21,9 +22,24 @@ put-action w b a h w′ q =
       λ i. record { needs = at0 i; adds = at 1 (lit< tt) i; dels = at 2 (lit< tt) i; cost = at 3 (lit< tt) i },
     )
 
--- A header that is stored.
-pub put-header : (w : List ℕ) (h : Header) → headerWords ≤ length w → (w′ : List ℕ) → w′ ≡ sets w 0 (h .facts ∷ h .actions ∷ h .abstracts ∷ h .methods ∷ h .start ∷ h .init ∷ h .goal ∷ []) → headerOf w′ ≡ h
+-- A header is its words.
+pub same-header : (w w′ : List ℕ) → ((i : ℕ) → i < headerWords → getD w′ i 0 ≡ getD w i 0) → headerOf w′ ≡ headerOf w
+same-header w w′ at =
+    λ i. record {
+      facts = at 0 (lit< tt) i;
+      actions = at 1 (lit< tt) i;
+      abstracts = at 2 (lit< tt) i;
+      methods = at 3 (lit< tt) i;
+      start = at 4 (lit< tt) i;
+      init = at startWord (lit< tt) i;
+      goal = at goalWord (lit< tt) i;
+    }
+
+-- One that is stored.
+pub put-header : (w : List ℕ) (h : Header) → headerWords ≤ length w → (w′ : List ℕ)
+    → w′ ≡ sets w 0 (h .facts ∷ h .actions ∷ h .abstracts ∷ h .methods ∷ h .start ∷ h .init ∷ h .goal ∷ []) → headerOf w′ ≡ h
 put-header w h l w′ q =
     let vs : List ℕ = h .facts ∷ h .actions ∷ h .abstracts ∷ h .methods ∷ h .start ∷ h .init ∷ h .goal ∷ [] in
-    let at : (i : ℕ) → i < headerWords → getD w′ (0 + i) 0 ≡ getD vs i 0 = λ i k. ap (λ (x : List ℕ). getD x (0 + i) 0) q ∙ held w vs 0 l i k in
-    λ i. record { facts = at 0 (lit< tt) i; actions = at 1 (lit< tt) i; abstracts = at 2 (lit< tt) i; methods = at 3 (lit< tt) i; start = at 4 (lit< tt) i; init = at 5 (lit< tt) i; goal = at 6 (lit< tt) i }
+    same-header vs w′ (λ i k.
+    let o : i ≡ 0 + i = omega arith in
+    ap (λ (n : ℕ). getD w′ n 0) o ∙ ap (λ (x : List ℕ). getD x (0 + i) 0) q ∙ held w vs 0 l i k)
