@@ -1,2 +1,2 @@
 pub mod ViewLaws
-mod PutLaws
+pub mod PutLaws
