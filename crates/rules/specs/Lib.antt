@@ -12,3 +12,4 @@ pub mod Plans
 pub mod Checks
 pub mod LeastBounds
 pub mod Refusals
+pub mod Programs
