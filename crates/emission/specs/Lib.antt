@@ -1,3 +1,2 @@
-pub mod Inputs
-pub mod Parts
+pub mod Jobs
 pub mod Sizes

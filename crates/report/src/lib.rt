@@ -3,15 +3,21 @@ ghost use mathlib.Core.Path.{_≡_};
 ghost use mathlib.Core.List.{_∷_};
 ghost use Prim.Native.Nat.{_+_, _*_, _≤_, min};
 ghost use lib.ListN.{length, getD};
-ghost use Rattle.basics.specs.Answers.{refusal};
-ghost use Rattle.rules.specs.Checks.{accepted as Checks·accepted};
 ghost use Rattle.basics.specs.Texts.{digits};
+ghost use Rattle.rules.specs.Programs.{acceptedLine, refusedLine};
 ghost use Rattle.text.specs.Appends.{Appends};
-ghost use Rattle.report.specs.Reports.{wordRoom, lineRoom, reportLine};
+ghost use Rattle.report.specs.Reports.{wordRoom, lineRoom};
+ghost use Rattle.report.specs.Inputs.{mostSize};
 use libc::STDOUT_FILENO;
 
 // Room for a line. The contracts say it by the name of specs/Reports.
 pub const LINE_ROOM: usize = 80;
+
+// A part of what a program writes, at the start of a text: the piece that comes after it, and how many bytes it has.
+pub struct Part {
+    pub next: usize,
+    pub size: usize,
+}
 
 // A byte that the input lacks reads as 0.
 pub fn byte(input: &[u8], at: usize) -> u8
@@ -25,6 +31,7 @@ pub fn byte(input: &[u8], at: usize) -> u8
 
 pub fn two_bytes(low: u8, high: u8) -> usize
     ensures { λ r. ⌜ r ≡ low + 256 * high ⌝ }
+    ensures { λ r. ⌜ r ≤ mostSize ⌝ }
 {
     low as usize + 256 * high as usize
 }
@@ -47,7 +54,7 @@ fn put_word(out: &mut [u8], at: usize, n: u64) -> usize
 
 pub fn accepted(out: &mut [u8], cost: u64, operators: u64, steps: u64) -> usize
     requires { ⌜ lineRoom ≤ length (now out) ⌝ }
-    ensures { λ r. ⌜ Appends (now (out .entry)) 0 (reportLine (Checks·accepted cost operators steps)) (now (out .exit)) r ⌝ }
+    ensures { λ r. ⌜ Appends (now (out .entry)) 0 (acceptedLine (record { cost = cost; operators = operators; steps = steps })) (now (out .exit)) r ⌝ }
     ensures { λ r. ⌜ r ≤ lineRoom ⌝ }
 {
     let first = text::put(out, 0, b"accepted");
@@ -59,7 +66,7 @@ pub fn accepted(out: &mut [u8], cost: u64, operators: u64, steps: u64) -> usize
 
 pub fn refused(out: &mut [u8], number: u64, place: u64) -> usize
     requires { ⌜ lineRoom ≤ length (now out) ⌝ }
-    ensures { λ r. ⌜ Appends (now (out .entry)) 0 (reportLine (refusal number place)) (now (out .exit)) r ⌝ }
+    ensures { λ r. ⌜ Appends (now (out .entry)) 0 (refusedLine number place) (now (out .exit)) r ⌝ }
     ensures { λ r. ⌜ r ≤ lineRoom ⌝ }
 {
     let first = text::put(out, 0, b"refused");

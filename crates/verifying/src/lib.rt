@@ -1,11 +1,15 @@
 // The checking program's work on its input: finding the parts, and writing the verdict as one line.
-ghost use Prim.Native.Nat.{_≤_};
+ghost use Prim.Native.Nat.{ℕ, _≤_, _<_};
 ghost use mathlib.Core.Path.{_≡_};
+ghost use mathlib.Core.List.{List};
 ghost use lib.ListN.{length};
 ghost use Rattle.rules.specs.Checks.{verdictOf};
+ghost use Rattle.rules.specs.Programs.{sizeIn, checkInput, checkOutput};
 ghost use Rattle.text.specs.Appends.{Appends};
-ghost use Rattle.report.specs.Reports.{lineRoom, reportLine};
-ghost use Rattle.verifying.specs.Input.{checkInput};
+ghost use Rattle.report.specs.Reports.{lineRoom};
+ghost use Rattle.report.specs.Inputs.{mostSize, mostCheckInput, ReadFrom};
+ghost use Rattle.report.specs.Parts.{Moves, Says};
+use report::Part;
 use rules::Verdict;
 
 // What two bytes of length can name.
@@ -14,26 +18,54 @@ const LONGEST_TABLE: usize = 256 * 256 - 1;
 // The header, the longest table, and a plan one byte too long: what follows is not looked at.
 pub const MOST_INPUT: usize = 4 + LONGEST_TABLE + rules::limits::MOST_PLAN_BYTES + 1;
 
-pub fn tell(input: &[u8]) {
-    let mut line = [0u8; report::LINE_ROOM];
-    let count = put_verdict(&mut line, input);
-    report::send(&line, count);
+// All that is written is one line.
+const PARTS: usize = 1;
+
+// What the program does with what it has read into the buffer.
+pub fn answer(buffer: &[u8], n: usize)
+    requires { ⌜ (mostCheckInput ≤ length (now buffer)) × (n ≤ length (now buffer)) ⌝ }
+{
+    let mut out = [0u8; report::LINE_ROOM];
+    send_parts(buffer, n, &mut out);
+}
+
+// Each part is sent as it is handed over.
+fn send_parts(buffer: &[u8], n: usize, out: &mut [u8])
+    requires { ⌜ (mostCheckInput ≤ length (now buffer)) × (n ≤ length (now buffer)) × (lineRoom ≤ length (now out)) ⌝ }
+{
+    let mut next = 0;
+    while next < PARTS {
+        let part = put_part(buffer, n, next, out);
+        report::send(out, part.size);
+        next = part.next;
+    }
+}
+
+// The next part of what is written of the input from which the buffer was filled.
+fn put_part(buffer: &[u8], n: usize, next: usize, out: &mut [u8]) -> Part
+    requires { ⌜ (mostCheckInput ≤ length (now buffer)) × (n ≤ length (now buffer)) × (lineRoom ≤ length (now out)) × (next < 1) ⌝ }
+    ensures { λ r. ⌜ ((s : List ℕ) → ReadFrom s (now (buffer .entry)) n → Says (λ _. checkOutput s) next (now (out .exit)) r) ⌝ }
+    ensures { λ r. ⌜ Moves 1 next (now (out .exit)) r ⌝ }
+    ensures { λ _. ⌜ length (now (out .exit)) ≡ length (now (out .entry)) ⌝ }
+{
+    let size = put_line(&buffer[..n], out);
+    Part { next: PARTS, size }
 }
 
 // The line that says what the check of the input comes to.
-fn put_verdict(line: &mut [u8], input: &[u8]) -> usize
-    requires { ⌜ lineRoom ≤ length (now line) ⌝ }
-    ensures { λ r. ⌜ Appends (now (line .entry)) 0 (reportLine (checkInput (now (input .entry)))) (now (line .exit)) r ⌝ }
-    ensures { λ r. ⌜ r ≤ lineRoom ⌝ }
+pub fn put_line(input: &[u8], out: &mut [u8]) -> usize
+    requires { ⌜ lineRoom ≤ length (now out) ⌝ }
+    ensures { λ r. ⌜ Appends (now (out .entry)) 0 (checkOutput (now (input .entry))) (now (out .exit)) r ⌝ }
+    ensures { λ r. ⌜ (r ≤ lineRoom) × (sizeIn (now (input .entry)) ≤ mostSize) ⌝ }
 {
     match decide(input) {
-        Verdict::Accepted(cost, operators, steps) => report::accepted(line, cost, operators, steps),
-        Verdict::Refused(number, place) => report::refused(line, number, place),
+        Verdict::Accepted(cost, operators, steps) => report::accepted(out, cost, operators, steps),
+        Verdict::Refused(number, place) => report::refused(out, number, place),
     }
 }
 
 fn decide(input: &[u8]) -> Verdict
-    ensures { λ r. ⌜ verdictOf r ≡ checkInput (now (input .entry)) ⌝ }
+    ensures { λ r. ⌜ (verdictOf r ≡ checkInput (now (input .entry))) × (sizeIn (now (input .entry)) ≤ mostSize) ⌝ }
 {
     let bound = report::byte(input, 0) as u64;
     let form = report::byte(input, 1) as u64;

@@ -1,7 +1,7 @@
 use native.Mathlib.Omega.{arith}
 use Rattle.basics.specs.Texts.{bytes, digits}
 use Rattle.text.proofs.AppendLaws.{_▸_, appends-is}
-use Rattle.report.specs.Reports.{reportLine}
+use Rattle.rules.specs.Programs.{acceptedLine}
 use Rattle.report.proofs.ReportLaws.{four-words}
 use borrow.Author.Needs.{needs}
 use Rattle.report.proofs.accepted.Statement.{statement}
@@ -32,7 +32,7 @@ same-length : tie.Need-same-length
 same-length c = search needs
 
 returns : tie.Need-returns
-unfolding reportLine
+unfolding acceptedLine
 returns c =
     let p5 = c .before .before in
     let p4 = p5 .before .before .before .before .before in

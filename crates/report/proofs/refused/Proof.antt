@@ -1,7 +1,7 @@
 use native.Mathlib.Omega.{arith}
 use Rattle.basics.specs.Texts.{bytes, digits}
 use Rattle.text.proofs.AppendLaws.{_▸_, appends-is}
-use Rattle.report.specs.Reports.{reportLine}
+use Rattle.rules.specs.Programs.{refusedLine}
 use Rattle.report.proofs.ReportLaws.{three-words}
 use borrow.Author.Needs.{needs}
 use Rattle.report.proofs.refused.Statement.{statement}
@@ -29,7 +29,7 @@ same-length : tie.Need-same-length
 same-length c = search needs
 
 returns : tie.Need-returns
-unfolding reportLine
+unfolding refusedLine
 returns c =
     let p4 = c .before .before in
     let p3 = p4 .before .before .before .before .before in

@@ -1,8 +1,9 @@
+use native.Mathlib.Omega.{arith}
 use Prim.Native.Nat.{ℕ, _+_, _-_, _*_, min}
 use mathlib.Core.Path.{_≡_, ap, _∙_}
 use lib.ListN.{length}
 use Rattle.rules.specs.Refusals.{checkPlan}
-use Rattle.verifying.specs.Input.{sizeOf, checkInput}
+use Rattle.rules.specs.Programs.{sizeIn, checkInput}
 use Rattle.verifying.proofs.PartLaws.{table-part, plan-part}
 use borrow.Author.Needs.{needs}
 use Rattle.verifying.proofs.decide.Statement.{statement}
@@ -63,7 +64,7 @@ verdict-requires : tie.Need-verdict-requires
 verdict-requires c κs = search needs
 
 returns : tie.Need-returns
-unfolding checkInput sizeOf
+unfolding checkInput sizeIn
 returns c =
     let begin = c .before .before .before .before in
     let n = begin .before .before .before .before in
@@ -71,14 +72,14 @@ returns c =
     let start = begin .smaller in
     let held = c .before .before .before .smaller2 in
     let both = begin .before in
-    let size : both .two-bytes .result ≡ sizeOf s =
-    both .two-bytes .ensures ∙ (λ i. both .before .before .byte3 .ensures i + 256 * both .before .byte4 .ensures i) in
-    let there : held .result ≡ min (sizeOf s) (length s - start .result) = held .ensures ∙ ap (λ (k : ℕ). min k (length s - start .result)) size in
+    let size : both .two-bytes .result ≡ sizeIn s =
+    both .two-bytes .ensures .0 ∙ (λ i. both .before .before .byte3 .ensures i + 256 * both .before .byte4 .ensures i) in
+    let there : held .result ≡ min (sizeIn s) (length s - start .result) = held .ensures ∙ ap (λ (k : ℕ). min k (length s - start .result)) size in
     let bound = n .before .byte .ensures in
     let form = n .byte2 .ensures in
-    let table = table-part s (sizeOf s) (start .result) (held .result) (start .ensures) there in
-    let plan = plan-part s (sizeOf s) (start .result) (held .result) (start .ensures) there in
-    c .verdict .ensures .1 ∙ (λ i. checkPlan (bound i) (form i) (table i) (plan i))
+    let table = table-part s (sizeIn s) (start .result) (held .result) (start .ensures) there in
+    let plan = plan-part s (sizeIn s) (start .result) (held .result) (start .ensures) there in
+    (c .verdict .ensures .1 ∙ (λ i. checkPlan (bound i) (form i) (table i) (plan i)), omega (arith, size, both .two-bytes .ensures .1))
 
 pub decide-spec : {M : Type 1} → statement M
 decide-spec =

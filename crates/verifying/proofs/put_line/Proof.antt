@@ -1,10 +1,10 @@
 use mathlib.Core.Path.{sym, ap, _∙_}
 use Rattle.rules.specs.Checks.{verdictOf}
 use Rattle.text.proofs.AppendLaws.{appends-is}
-use Rattle.report.specs.Reports.{reportLine}
+use Rattle.rules.specs.Programs.{told, acceptedLine, checkOutput}
 use borrow.Author.Needs.{needs}
-use Rattle.verifying.proofs.put_verdict.Statement.{statement}
-use Rattle.verifying.proofs.put_verdict.Tie as tie
+use Rattle.verifying.proofs.put_line.Statement.{statement}
+use Rattle.verifying.proofs.put_line.Tie as tie
 
 decide-requires : tie.Need-decide-requires
 decide-requires c κs = search needs
@@ -25,22 +25,24 @@ same-length : tie.Need-same-length
 same-length c = search needs
 
 returns : tie.Need-returns
+unfolding checkOutput
 returns c =
     let p = c .before .before .accepted in
     let m = c .before .before .before .before .before in
-    (appends-is (ap reportLine (sym (m .before .before .decide .ensures) ∙ ap verdictOf (m .cost .given .1))) (p .ensures .0), p .ensures .1)
+    (appends-is (ap (told acceptedLine) (sym (m .before .before .decide .ensures .0) ∙ ap verdictOf (m .cost .given .1))) (p .ensures .0), (p .ensures .1, m .before .before .decide .ensures .1))
 
 same-length-2 : tie.Need-same-length-2
 same-length-2 c = search needs
 
 returns-2 : tie.Need-returns-2
+unfolding checkOutput
 returns-2 c =
     let p = c .before .before .refused in
     let m = c .before .before .before .before .before in
-    (appends-is (ap reportLine (sym (m .before .before .decide .ensures) ∙ ap verdictOf (m .number .given .1))) (p .ensures .0), p .ensures .1)
+    (appends-is (ap (told acceptedLine) (sym (m .before .before .decide .ensures .0) ∙ ap verdictOf (m .number .given .1))) (p .ensures .0), (p .ensures .1, m .before .before .decide .ensures .1))
 
-pub put-verdict-spec : {M : Type 1} → statement M
-put-verdict-spec =
+pub put-line-spec : {M : Type 1} → statement M
+put-line-spec =
     tie.close
     (tie.spec
     decide-requires

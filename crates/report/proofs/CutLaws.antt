@@ -1,0 +1,108 @@
+-- An input that is longer than what is read of it gets the same answer as what is read of it.
+use Prim.Native.Nat.{ℕ, zero, suc, _+_, _*_, _-_, _≤_, _<_}
+use mathlib.Core.Path.{_≡_, refl, sym, ap, ap₂, _∙_}
+use mathlib.Core.List.{List, [], _∷_}
+use native.Mathlib.Decide.{decLe}
+use native.Mathlib.Nat.{zero-add, suc-add}
+use native.Mathlib.Omega.{arith}
+use lib.ListN.{length, take, drop, getD}
+use lib.Seq.{take-all, take-nil, drop-nil, take-take, length-take-le, getD-take}
+use Rattle.basics.specs.Answers.{Answer, answer, refusal, after}
+use Rattle.rules.specs.Limits.{mostTableBytes, mostPlanBytes}
+use Rattle.rules.specs.Reasons.{planTooLong}
+use Rattle.rules.specs.Tables.{Table}
+use Rattle.rules.specs.Sections.{problemText}
+use Rattle.rules.specs.Plans.{linesOf}
+use Rattle.rules.specs.Checks.{Tally, checkLines}
+use Rattle.rules.specs.Refusals.{boundFormed, tableRead, opened, planNumber, wholeProblem, checkPlan}
+use Rattle.rules.specs.Programs.{boundIn, formIn, sizeIn, checkInput, checkOutput, emitInput, emitOutput, told, acceptedLine, asItIs}
+use Rattle.laws.proofs.RefusalLaws.{table-long, plan-long}
+use Rattle.theorems.proofs.Demand3.{opened-given}
+use Rattle.report.specs.Inputs.{mostSize, mostCheckInput, mostEmitInput, ReadFrom}
+
+drop-cut : (a n : ℕ) (l : List ℕ) → drop a (take (a + n) l) ≡ take n (drop a l)
+drop-cut zero n l = ap (λ (k : ℕ). take k l) (zero-add n)
+drop-cut (suc a) n [] = ap (drop (suc a)) (take-nil (suc a + n)) ∙ sym (take-nil n)
+drop-cut (suc a) n (x ∷ l) = ap (λ (k : ℕ). drop (suc a) (take k (x ∷ l))) (suc-add a n) ∙ drop-cut a n l
+
+-- A part that is taken from what is left after a cut further on.
+cut-later : (a n : ℕ) (l : List ℕ) → a ≤ n → drop a (take n l) ≡ take (n - a) (drop a l)
+cut-later a n l h = let e : n ≡ a + (n - a) = omega arith in ap (λ (k : ℕ). drop a (take k l)) e ∙ drop-cut a (n - a) l
+
+-- What comes after a refusal is the same, whatever was to come.
+same-refused : {A B : Type 0} (x : Answer A) → ((a : A) → x ≡ answer a → ⊥) → (g h : A → Answer B) → after x g ≡ after x h
+same-refused (answer a) never g h = absurd (never a refl)
+same-refused (refusal n l) never g h = refl
+
+module _ (b f : ℕ) (s : List ℕ) (n : ℕ) where
+  -- A table that is cut behind its limit is too long, as it was.
+  table-cut : (late : ℕ) → mostTableBytes < n → tableRead late (take n s) ≡ tableRead late s
+  table-cut late h =
+      elim (decLe (length s) n) [
+        | yes l ↦ ap (tableRead late) (take-all n s l)
+        | no l ↦
+            table-long late (take n s) (omega (arith, length-take-le n s (omega arith)))
+            ∙ sym (table-long late s (omega arith))
+      ]
+
+  pub problem-cut : mostTableBytes < n → wholeProblem b f (take n s) ≡ wholeProblem b f s
+  unfolding wholeProblem opened
+  problem-cut h = ap (λ (x : Answer Table). after (boundFormed b f x) (λ t. answer (problemText b f t))) (table-cut 0 h)
+
+  -- So is a plan; and of a plan that is too long nothing else is looked at.
+  long-plan : (x y : List ℕ) → mostPlanBytes < length x → mostPlanBytes < length y → checkPlan b f s x ≡ checkPlan b f s y
+  unfolding checkPlan
+  long-plan x y h k =
+      let barred : (t : Table) → opened planTooLong b f s ≡ answer t → ⊥ =
+      λ t e. let z = opened-given planTooLong b f s t e .1 in omega (arith, z) in
+      ap (λ (m : ℕ). after (opened m b f s) (λ t. checkLines b f t (linesOf x))) (plan-long x h)
+      ∙ same-refused (opened planTooLong b f s) barred (λ t. checkLines b f t (linesOf x)) (λ t. checkLines b f t (linesOf y))
+      ∙ ap (λ (m : ℕ). after (opened m b f s) (λ t. checkLines b f t (linesOf y))) (sym (plan-long y k))
+
+  pub plan-cut : (plan : List ℕ) → mostPlanBytes < n → checkPlan b f s (take n plan) ≡ checkPlan b f s plan
+  plan-cut plan h =
+      elim (decLe (length plan) n) [
+        | yes l ↦ ap (checkPlan b f s) (take-all n plan l)
+        | no l ↦ long-plan (take n plan) plan (omega (arith, length-take-le n plan (omega arith))) (omega arith)
+      ]
+
+module _ (s : List ℕ) (n : ℕ) where
+  -- The emitting program's input.
+  emit-cut : mostEmitInput ≤ n → emitInput (take n s) ≡ emitInput s
+  unfolding emitInput
+  emit-cut h =
+      (λ i. wholeProblem (getD-take n s 0 0 (omega arith) i) (getD-take n s 1 0 (omega arith) i) (cut-later 2 n s (omega arith) i))
+      ∙ problem-cut (boundIn s) (formIn s) (drop 2 s) (n - 2) (omega arith)
+
+  -- The checking program's, whose two bytes of length are bytes.
+  size-cut : mostCheckInput ≤ n → sizeIn (take n s) ≡ sizeIn s
+  unfolding sizeIn
+  size-cut h = ap₂ (λ (low high : ℕ). low + 256 * high) (getD-take n s 2 0 (omega arith)) (getD-take n s 3 0 (omega arith))
+
+  module _ (h : mostCheckInput ≤ n) (low : sizeIn s ≤ mostSize) where
+    there : drop 4 (take n s) ≡ take (n - 4) (drop 4 s)
+    there = cut-later 4 n s (omega arith)
+
+    table-there : take (sizeIn (take n s)) (drop 4 (take n s)) ≡ take (sizeIn s) (drop 4 s)
+    table-there = ap₂ take (size-cut h) there ∙ take-take (sizeIn s) (n - 4) (drop 4 s) (omega arith)
+
+    plan-there : drop (sizeIn (take n s)) (drop 4 (take n s)) ≡ take (n - 4 - sizeIn s) (drop (sizeIn s) (drop 4 s))
+    plan-there = ap₂ drop (size-cut h) there ∙ cut-later (sizeIn s) (n - 4) (drop 4 s) (omega arith)
+
+    check-cut : checkInput (take n s) ≡ checkInput s
+    unfolding checkInput
+    check-cut =
+        (λ i. checkPlan (getD-take n s 0 0 (omega arith) i) (getD-take n s 1 0 (omega arith) i) (table-there i) (plan-there i))
+        ∙ plan-cut (boundIn s) (formIn s) (take (sizeIn s) (drop 4 s)) (n - 4 - sizeIn s) (drop (sizeIn s) (drop 4 s)) (omega arith)
+
+-- What has been read into a buffer that is large enough gets the input's answer.
+module _ (s buffer : List ℕ) (n : ℕ) (r : ReadFrom s buffer n) where
+  pub emit-read : mostEmitInput ≤ length buffer → emitOutput (take n buffer) ≡ emitOutput s
+  unfolding emitOutput
+  emit-read h = ap (told asItIs) (ap emitInput r ∙ emit-cut s (length buffer) h)
+
+  pub check-read : mostCheckInput ≤ length buffer → sizeIn (take n buffer) ≤ mostSize → checkOutput (take n buffer) ≡ checkOutput s
+  unfolding checkOutput
+  check-read h low =
+      let same : sizeIn (take n buffer) ≡ sizeIn s = ap sizeIn r ∙ size-cut s (length buffer) h in
+      ap (told acceptedLine) (ap checkInput r ∙ check-cut s (length buffer) h (omega (arith, same, low)))

@@ -1,0 +1,31 @@
+-- Parts that follow one another join to the whole.
+use Prim.Native.Nat.{ℕ, zero, suc, _<_}
+use mathlib.Core.Path.{_≡_, sym, ap, _∙_}
+use mathlib.Core.List.{List, [], _∷_, _++_, map, append-assoc, append-nil}
+use native.Mathlib.Omega.{arith}
+use lib.ListN.{take}
+use Rattle.basics.specs.Lists.{upto, concat}
+use Rattle.text.specs.Appends.{Appends}
+use Rattle.report.specs.Parts.{Sent, Follow}
+
+-- What was sent.
+abbrev pub sent : List Sent → List ℕ
+sent ps = concat (map (λ (p : Sent). p .text) ps)
+
+module _ (f : ℕ → List ℕ) where
+  joined-from : (n m : ℕ) (ps : List Sent) → Follow f n m ps → upto f n ≡ upto f m ++ sent ps
+  unfolding Follow concat
+  joined-from n m [] e = ap (upto f) (sym e) ∙ sym (append-nil (upto f m))
+  joined-from n m (p ∷ ps) h =
+      joined-from n (p .next) ps (h .1) ∙ ap (λ (x : List ℕ). x ++ sent ps) (h .0) ∙ append-assoc (upto f m) (p .text) (sent ps)
+
+  pub joined : (n : ℕ) (ps : List Sent) → Follow f n 0 ps → sent ps ≡ upto f n
+  unfolding upto
+  joined n ps h = sym (joined-from n 0 ps h)
+
+-- One part that is all there is to write.
+pub only-part : (x : List ℕ) {old new : List ℕ} (next size : ℕ) → next < 1 → Appends old 0 x new size
+    → upto (λ _. x) 1 ≡ upto (λ _. x) next ++ take size new
+unfolding upto
+only-part x zero size h w = sym (w .text)
+only-part x (suc n) size h w = absurd (omega arith)

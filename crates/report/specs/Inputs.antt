@@ -1,0 +1,21 @@
+-- How much of its input a program reads, and what has been read.
+use Prim.Native.Nat.{ℕ, _+_, _*_, _-_}
+use mathlib.Core.Path.{_≡_}
+use mathlib.Core.List.{List}
+use lib.ListN.{length, take}
+use Rattle.rules.specs.Limits.{mostTableBytes, mostPlanBytes}
+
+-- What a table's two bytes of length can name.
+abbrev pub mostSize : ℕ
+mostSize = 256 * 256 - 1
+
+-- The bytes before the table, the longest table and a plan one byte too long; and for the emitting program a table one byte too long.
+abbrev pub mostCheckInput : ℕ
+mostCheckInput = 4 + mostSize + mostPlanBytes + 1
+
+abbrev pub mostEmitInput : ℕ
+mostEmitInput = 2 + mostTableBytes + 1
+
+-- Of an input, n bytes stand at the start of the buffer: all of them, or as many as it holds.
+abbrev pub ReadFrom : List ℕ → List ℕ → ℕ → Type 0
+ReadFrom input buffer n = take n buffer ≡ take (length buffer) input
