@@ -24,11 +24,11 @@ const STEP_SPACE: usize = template::STEP_TEXT_BYTES + template::MARGIN;
 
 const PART_BYTES: usize = 524288;
 
-// Bound, form and a table one byte too long: what follows is not looked at.
+// What is read of the input, with the name that specs/Inputs of `report` has for it.
 pub const MOST_INPUT: usize = 2 + rules::limits::MOST_TABLE_BYTES + 1;
 
 // What there is to write: the problem of bound and form, or a refusal's number and place.
-pub enum Job {
+enum Job {
     Problem(u64, u64),
     Refusal(u64, u64),
 }
@@ -45,7 +45,7 @@ pub fn answer(buffer: &[u8], n: usize)
 }
 
 // Each part is sent as it is handed over.
-pub fn send_parts(job: Job, words: &[u64], figures: &[u8], out: &mut [u8])
+fn send_parts(job: Job, words: &[u64], figures: &[u8], out: &mut [u8])
     requires { ⌜ Stands job (now words) (now figures) × (partBytes ≤ length (now out)) ⌝ }
 {
     let parts = piece_count(job, words);
@@ -68,7 +68,7 @@ fn open_read(buffer: &[u8], n: usize, words: &mut [u64], figures: &mut [u8]) -> 
 }
 
 // The first byte is the bound, the second the form, and all behind them the table.
-pub fn open(input: &[u8], words: &mut [u64], figures: &mut [u8]) -> Job
+fn open(input: &[u8], words: &mut [u64], figures: &mut [u8]) -> Job
     requires { ⌜ (tableWords ≤ length (now words)) × (figureBytes ≤ length (now figures)) ⌝ }
     ensures { λ r. ⌜ Does (emitOutput (now (input .entry))) r (now (words .exit)) (now (figures .exit)) ⌝ }
 {
@@ -85,7 +85,7 @@ pub fn open(input: &[u8], words: &mut [u64], figures: &mut [u8]) -> Job
 }
 
 // Room for all that stands before the operators, and then for the operators of five steps.
-pub fn space() -> [u8; PART_BYTES]
+fn space() -> [u8; PART_BYTES]
     ensures { λ r. ⌜ partBytes ≡ length r ⌝ }
 {
     [0; PART_BYTES]

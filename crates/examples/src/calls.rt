@@ -1,4 +1,11 @@
-// The calls that the two programs do not make.
+// The exported calls, by name.
+ghost use Prim.Native.Nat.{_≤_};
+ghost use lib.ListN.{length};
+use console::checking::ildorzhen_check_cost;
+use console::checking::ildorzhen_check_number;
+use console::checking::ildorzhen_check_operators;
+use console::checking::ildorzhen_check_place;
+use console::checking::ildorzhen_check_steps;
 use console::expanding::ildorzhen_expand_length;
 use console::expanding::ildorzhen_expand_number;
 use console::expanding::ildorzhen_expand_place;
@@ -56,22 +63,75 @@ pub fn section(input: &[u8]) {
     report::send(&text, end);
 }
 
-// An input of the checking program: the plan's steps, in as many bytes of room as they need, less some.
-pub fn steps(input: &[u8], less: usize) {
+// Bound, form, index, place, room, table: all that the calls for that section hand back, in so many bytes of text.
+pub fn section_in(input: &[u8]) {
+    let bound = report::byte(input, 0) as u64;
+    let form = report::byte(input, 1) as u64;
+    let index = report::byte(input, 2) as u64;
+    let at = report::byte(input, 3) as u64;
+    let size = report::byte(input, 4) as usize;
+    let table = &input[report::smaller(5, input.len())..];
+    let mut space = [0u8; ROOM];
+    section_numbers(bound, form, table, index, &mut space, at, size);
+}
+
+fn section_numbers(
+    bound: u64,
+    form: u64,
+    table: &[u8],
+    index: u64,
+    space: &mut [u8],
+    at: u64,
+    size: usize,
+)
+    requires { ⌜ size ≤ length (now space) ⌝ }
+{
+    let text = &mut space[..size];
+    let number = ildorzhen_section_number(bound, form, table, index, text, at);
+    let place = ildorzhen_section_place(bound, form, table, index, text, at);
+    let length = ildorzhen_section_length(bound, form, table, index, text, at);
+    let written = ildorzhen_section_write(bound, form, table, index, text, at);
+    crate::lines::numbers(b"section", &[number, place, length, written]);
+}
+
+// An input of the checking program. k: all that the calls for the plan hand back; x, y: its steps, in as many bytes of room as they
+// need, in one less.
+pub fn with_plan(kind: u8, input: &[u8]) {
     let bound = report::byte(input, 0) as u64;
     let form = report::byte(input, 1) as u64;
     let size = report::two_bytes(report::byte(input, 2), report::byte(input, 3));
     let start = report::smaller(4, input.len());
     let end = start + report::smaller(size, input.len() - start);
+    let table = &input[start..end];
+    let plan = &input[end..];
     let mut space = [0u8; ROOM];
-    expand_less(
-        bound,
-        form,
-        &input[start..end],
-        &input[end..],
-        &mut space,
-        less,
-    );
+    match kind {
+        b'k' => check_numbers(bound, form, table, plan, &mut space),
+        b'x' => expand_less(bound, form, table, plan, &mut space, 0),
+        _ => expand_less(bound, form, table, plan, &mut space, 1),
+    }
+}
+
+// The check's numbers, and those of the expansion into four bytes and into many.
+fn check_numbers(bound: u64, form: u64, table: &[u8], plan: &[u8], space: &mut [u8])
+    requires { ⌜ 4 ≤ length (now space) ⌝ }
+{
+    let number = ildorzhen_check_number(bound, form, table, plan);
+    let place = ildorzhen_check_place(bound, form, table, plan);
+    let cost = ildorzhen_check_cost(bound, form, table, plan);
+    let operators = ildorzhen_check_operators(bound, form, table, plan);
+    let steps = ildorzhen_check_steps(bound, form, table, plan);
+    crate::lines::numbers(b"check", &[number, place, cost, operators, steps]);
+    expand_numbers(bound, form, table, plan, &mut space[..4]);
+    expand_numbers(bound, form, table, plan, space);
+}
+
+fn expand_numbers(bound: u64, form: u64, table: &[u8], plan: &[u8], room: &mut [u8]) {
+    let number = ildorzhen_expand_number(bound, form, table, plan, room);
+    let place = ildorzhen_expand_place(bound, form, table, plan, room);
+    let length = ildorzhen_expand_length(bound, form, table, plan, room);
+    let written = ildorzhen_expand_write(bound, form, table, plan, room);
+    crate::lines::numbers(b"expand", &[number, place, length, written]);
 }
 
 // The room is at the end of the space.

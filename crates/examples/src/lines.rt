@@ -30,6 +30,25 @@ pub fn answer(name: &[u8], number: u64, place: u64, value: u64)
     report::send(b"\n", 1);
 }
 
+fn spaced(n: u64) {
+    field(b" ", n);
+}
+
+// A name and numbers, as one line.
+pub fn numbers(name: &[u8], numbers: &[u64]) {
+    report::send(name, name.len());
+    number_fields(numbers);
+    report::send(b"\n", 1);
+}
+
+fn number_fields(numbers: &[u64]) {
+    let mut i = 0;
+    while i < numbers.len() {
+        spaced(numbers[i]);
+        i += 1;
+    }
+}
+
 // A step list, word by word, as one line.
 pub fn steps(bytes: &[u8]) {
     report::send(b"steps", 5);
@@ -50,6 +69,6 @@ fn word(bytes: &[u8], at: usize) -> usize
     ensures { λ r. ⌜ at < r ⌝ }
 {
     let step = report::two_bytes(report::byte(bytes, at), report::byte(bytes, at + 1));
-    field(b" ", step as u64);
+    spaced(step as u64);
     at + 2
 }

@@ -6,6 +6,7 @@ use libc::STDIN_FILENO;
 
 mod calls;
 mod lines;
+mod programs;
 
 // Room for all records.
 const MOST_RECORDS: usize = 256 * 256;
@@ -35,16 +36,16 @@ fn run_one(all: &[u8], at: usize) -> usize
     end
 }
 
-// c, e: an input of the checking program, of the emitting program; n, s, l, x, y: see there; t: a title, which is said as it is.
+// c, e: an input of the checking program, of the emitting program; k, l, n, r, s, x, y: see there; t: a title, which is said as it is.
 fn show(kind: u8, input: &[u8]) {
     match kind {
-        b'c' => verifying::tell(input),
-        b'e' => emission::emit(input),
-        b'n' => calls::sections(input),
-        b's' => calls::section(input),
+        b'c' => programs::check(input),
+        b'e' => programs::emit(input),
         b'l' => calls::least(input),
-        b'x' => calls::steps(input, 0),
-        b'y' => calls::steps(input, 1),
-        _ => report::send(input, input.len()),
+        b'n' => calls::sections(input),
+        b'r' => calls::section_in(input),
+        b's' => calls::section(input),
+        b't' => report::send(input, input.len()),
+        _ => calls::with_plan(kind, input),
     }
 }

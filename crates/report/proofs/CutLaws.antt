@@ -1,21 +1,24 @@
 -- An input that is longer than what is read of it gets the same answer as what is read of it.
 use Prim.Native.Nat.{ℕ, zero, suc, _+_, _*_, _-_, _≤_, _<_}
 use mathlib.Core.Path.{_≡_, refl, sym, ap, ap₂, _∙_}
+use mathlib.Core.Bool.{_&&_}
 use mathlib.Core.List.{List, [], _∷_}
 use native.Mathlib.Decide.{decLe}
 use native.Mathlib.Nat.{zero-add, suc-add}
 use native.Mathlib.Omega.{arith}
-use lib.ListN.{length, take, drop, getD}
-use lib.Seq.{take-all, take-nil, drop-nil, take-take, length-take-le, getD-take}
+use lib.Dec.{leb}
+use lib.ListN.{length, take, drop, getD, length-drop}
+use lib.Seq.{take-all, take-nil, take-take, length-take-le, getD-take}
 use Rattle.basics.specs.Answers.{Answer, answer, refusal, after}
-use Rattle.rules.specs.Limits.{mostTableBytes, mostPlanBytes}
-use Rattle.rules.specs.Reasons.{planTooLong}
+use Rattle.rules.specs.Limits.{mostBound, mostTableBytes, mostPlanBytes}
+use Rattle.rules.specs.Reasons.{badBound, badForm, tableTooLong, planTooLong}
 use Rattle.rules.specs.Tables.{Table}
 use Rattle.rules.specs.Sections.{problemText}
 use Rattle.rules.specs.Plans.{linesOf}
 use Rattle.rules.specs.Checks.{Tally, checkLines}
 use Rattle.rules.specs.Refusals.{boundFormed, tableRead, opened, planNumber, wholeProblem, checkPlan}
 use Rattle.rules.specs.Programs.{boundIn, formIn, sizeIn, checkInput, checkOutput, emitInput, emitOutput, told, acceptedLine, asItIs}
+use Rattle.laws.proofs.AnswerLaws.{check-passed, refused}
 use Rattle.laws.proofs.RefusalLaws.{table-long, plan-long}
 use Rattle.theorems.proofs.Demand3.{opened-given}
 use Rattle.report.specs.Inputs.{mostSize, mostCheckInput, mostEmitInput, ReadFrom}
@@ -34,6 +37,16 @@ same-refused : {A B : Type 0} (x : Answer A) → ((a : A) → x ≡ answer a →
 same-refused (answer a) never g h = absurd (never a refl)
 same-refused (refusal n l) never g h = refl
 
+long-table : (b f : ℕ) (s x y : List ℕ) → mostTableBytes < length s → checkPlan b f s x ≡ checkPlan b f s y
+unfolding checkPlan opened
+long-table b f s x y h =
+    let barred : (t : Table) → boundFormed b f (refusal tableTooLong 0) ≡ answer t → ⊥ =
+    λ t e.
+    let q = check-passed (leb 1 b && leb b mostBound) badBound 0 _ e in
+    refused tableTooLong 0 (check-passed (leb f 1) badForm 0 _ (q .1) .1) in
+    rw (table-long (planNumber x) s h, table-long (planNumber y) s h)
+    (same-refused (boundFormed b f (refusal tableTooLong 0)) barred (λ t. checkLines b f t (linesOf x)) (λ t. checkLines b f t (linesOf y)))
+
 module _ (b f : ℕ) (s : List ℕ) (n : ℕ) where
   -- A table that is cut behind its limit is too long, as it was.
   table-cut : (late : ℕ) → mostTableBytes < n → tableRead late (take n s) ≡ tableRead late s
@@ -49,7 +62,7 @@ module _ (b f : ℕ) (s : List ℕ) (n : ℕ) where
   unfolding wholeProblem opened
   problem-cut h = ap (λ (x : Answer Table). after (boundFormed b f x) (λ t. answer (problemText b f t))) (table-cut 0 h)
 
-  -- So is a plan; and of a plan that is too long nothing else is looked at.
+  -- So is a plan; and of a plan that is too long, or behind a table that is, nothing else is looked at.
   long-plan : (x y : List ℕ) → mostPlanBytes < length x → mostPlanBytes < length y → checkPlan b f s x ≡ checkPlan b f s y
   unfolding checkPlan
   long-plan x y h k =
@@ -89,11 +102,27 @@ module _ (s : List ℕ) (n : ℕ) where
     plan-there : drop (sizeIn (take n s)) (drop 4 (take n s)) ≡ take (n - 4 - sizeIn s) (drop (sizeIn s) (drop 4 s))
     plan-there = ap₂ drop (size-cut h) there ∙ cut-later (sizeIn s) (n - 4) (drop 4 s) (omega arith)
 
+    -- The plan behind a table that is too long is not looked at.
+    plan-same : n < length s
+        → checkPlan (boundIn s) (formIn s) (take (sizeIn s) (drop 4 s)) (take (n - 4 - sizeIn s) (drop (sizeIn s) (drop 4 s)))
+        ≡ checkPlan (boundIn s) (formIn s) (take (sizeIn s) (drop 4 s)) (drop (sizeIn s) (drop 4 s))
+    plan-same l =
+        elim (decLe (sizeIn s) mostTableBytes) [
+          | yes k ↦ plan-cut (boundIn s) (formIn s) (take (sizeIn s) (drop 4 s)) (n - 4 - sizeIn s) (drop (sizeIn s) (drop 4 s)) (omega arith)
+          | no k ↦
+              long-table (boundIn s) (formIn s) (take (sizeIn s) (drop 4 s)) _ _
+              (omega (arith, length-take-le (sizeIn s) (drop 4 s) (omega (arith, length-drop 4 s))))
+        ]
+
     check-cut : checkInput (take n s) ≡ checkInput s
     unfolding checkInput
     check-cut =
-        (λ i. checkPlan (getD-take n s 0 0 (omega arith) i) (getD-take n s 1 0 (omega arith) i) (table-there i) (plan-there i))
-        ∙ plan-cut (boundIn s) (formIn s) (take (sizeIn s) (drop 4 s)) (n - 4 - sizeIn s) (drop (sizeIn s) (drop 4 s)) (omega arith)
+        elim (decLe (length s) n) [
+          | yes l ↦ ap checkInput (take-all n s l)
+          | no l ↦
+              (λ i. checkPlan (getD-take n s 0 0 (omega arith) i) (getD-take n s 1 0 (omega arith) i) (table-there i) (plan-there i))
+              ∙ plan-same (omega arith)
+        ]
 
 -- What has been read into a buffer that is large enough gets the input's answer.
 module _ (s buffer : List ℕ) (n : ℕ) (r : ReadFrom s buffer n) where

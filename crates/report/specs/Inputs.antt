@@ -9,10 +9,11 @@ use Rattle.rules.specs.Limits.{mostTableBytes, mostPlanBytes}
 abbrev pub mostSize : ℕ
 mostSize = 256 * 256 - 1
 
--- The bytes before the table, the longest table and a plan one byte too long; and for the emitting program a table one byte too long.
+-- The bytes before the table, the longest table and a plan one byte too long: where the table is longer, the plan is not looked at.
 abbrev pub mostCheckInput : ℕ
-mostCheckInput = 4 + mostSize + mostPlanBytes + 1
+mostCheckInput = 4 + mostTableBytes + mostPlanBytes + 1
 
+-- For the emitting program, a table one byte too long.
 abbrev pub mostEmitInput : ℕ
 mostEmitInput = 2 + mostTableBytes + 1
 

@@ -11,12 +11,11 @@ ghost use Rattle.report.specs.Inputs.{mostSize, mostCheckInput, ReadFrom};
 ghost use Rattle.report.specs.Parts.{Moves, Says};
 use report::Part;
 use rules::Verdict;
+use rules::limits::MOST_PLAN_BYTES;
+use rules::limits::MOST_TABLE_BYTES;
 
-// What two bytes of length can name.
-const LONGEST_TABLE: usize = 256 * 256 - 1;
-
-// The header, the longest table, and a plan one byte too long: what follows is not looked at.
-pub const MOST_INPUT: usize = 4 + LONGEST_TABLE + rules::limits::MOST_PLAN_BYTES + 1;
+// What is read of the input, with the name that specs/Inputs of `report` has for it.
+pub const MOST_INPUT: usize = 4 + MOST_TABLE_BYTES + MOST_PLAN_BYTES + 1;
 
 // All that is written is one line.
 const PARTS: usize = 1;
@@ -53,7 +52,7 @@ fn put_part(buffer: &[u8], n: usize, next: usize, out: &mut [u8]) -> Part
 }
 
 // The line that says what the check of the input comes to.
-pub fn put_line(input: &[u8], out: &mut [u8]) -> usize
+fn put_line(input: &[u8], out: &mut [u8]) -> usize
     requires { ⌜ lineRoom ≤ length (now out) ⌝ }
     ensures { λ r. ⌜ Appends (now (out .entry)) 0 (checkOutput (now (input .entry))) (now (out .exit)) r ⌝ }
     ensures { λ r. ⌜ (r ≤ lineRoom) × (sizeIn (now (input .entry)) ≤ mostSize) ⌝ }
