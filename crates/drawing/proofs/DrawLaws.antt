@@ -5,7 +5,8 @@ use mathlib.Core.List.{List, [], _++_, append-assoc, append-nil}
 use native.Mathlib.Omega.{arith}
 use lib.ListN.{length}
 use Rattle.basics.specs.Texts.{digits}
-use Rattle.text.specs.Appends.{Appends}
+use Rattle.text.specs.Puts.{Puts}
+use Rattle.text.proofs.PutLaws.{appended}
 use Rattle.template.specs.declared.Pen.{Pen}
 use Rattle.template.specs.Templates.{Drawn}
 use Rattle.template.proofs.TemplateLaws.{drawn-text, drawn-is}
@@ -31,10 +32,10 @@ draws-none {x} h e =
 
 -- Text in which nothing moves.
 pub draws-text : {t lens offs y t′ : List ℕ} {pen : Pen} {r b : ℕ} → Space (fixed y b) t pen → r ≤ pen .at + b
-    → Appends t (pen .at) y t′ r → Draws (fixed y b) t lens offs pen t′ lens offs (record { at = r; from = pen .from; count = pen .count })
+    → Puts t (pen .at) y t′ r → Draws (fixed y b) t lens offs pen t′ lens offs (record { at = r; from = pen .from; count = pen .count })
 draws-text s k w =
     record {
-      drawn = λ x d. drawn-text d w (omega (arith, s .bytes));
+      drawn = λ x d. drawn-text d (appended w (omega (arith, s .bytes))) (omega (arith, s .bytes));
       reach = omega (arith, s .reach, w .next);
       most = k;
       count = omega arith;

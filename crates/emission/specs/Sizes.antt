@@ -17,4 +17,4 @@ stepSpace = stepTextBytes + margin
 
 -- What is written at a time: room for all that stands before the operators, and then for the operators of five steps.
 abbrev pub partBytes : ℕ
-partBytes = 524288
+partBytes = 256 * mostSectionBytes

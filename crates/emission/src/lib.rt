@@ -22,7 +22,7 @@ use template::FIGURE_BYTES;
 // Sizes, with the names that specs/Sizes has for them.
 const STEP_SPACE: usize = template::STEP_TEXT_BYTES + template::MARGIN;
 
-const PART_BYTES: usize = 524288;
+const PART_BYTES: usize = 256 * rules::limits::MOST_SECTION_BYTES;
 
 // What is read of the input, with the name that specs/Inputs of `report` has for it.
 pub const MOST_INPUT: usize = 2 + rules::limits::MOST_TABLE_BYTES + 1;

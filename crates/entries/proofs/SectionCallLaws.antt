@@ -1,7 +1,7 @@
 -- One section, measured or written: what its length, and what a writer left, say of the call's answer.
 use mathlib.Core.Path.{_≡_, refl, sym, ap, _∙_}
 use mathlib.Core.Bool.{Bool}
-use mathlib.Core.List.{List, [], _++_, append-nil, append-assoc}
+use mathlib.Core.List.{List, [], _++_, append-nil}
 use Prim.Native.Nat.{ℕ, _+_, _-_, _≤_, _<_}
 use native.Mathlib.Nat.{le-refl}
 use native.Mathlib.Decide.{decLe}
@@ -10,59 +10,21 @@ use borrow.Author.Tests.{le-leb, lt-leb}
 use borrow.Rule.Slice.PartMut.{putMid}
 use lib.Dec.{leb}
 use lib.ListN.{length, take, drop, length-drop, take-append-drop, drop-of-length-le}
-use lib.Seq.{sets, take-all, drop-drop}
+use lib.Seq.{take-all, drop-drop}
 use Rattle.basics.specs.Answers.{Answer, answer, refusal, check, after, lengthOf}
-use Rattle.rules.specs.Limits.{mostSectionBytes}
 use Rattle.rules.specs.Reasons.{noRoom}
 use Rattle.rules.specs.Refusals.{roomOf, roomFor, written}
-use Rattle.laws.proofs.RefusalLaws.{stores-written, room-short, room-fits, room-length}
-use Rattle.section.specs.Chosen.{Begins}
+use Rattle.laws.proofs.RefusalLaws.{room-short, room-length}
 
 -- ---- room
 
 -- A section has room where its length has.
-pub measured-length : (size at : ℕ) (x : Answer (List ℕ)) → lengthOf (after x (roomFor size at)) ≡ after (lengthOf x) (roomOf size at)
+measured-length : (size at : ℕ) (x : Answer (List ℕ)) → lengthOf (after x (roomFor size at)) ≡ after (lengthOf x) (roomOf size at)
 measured-length size at (answer x) = room-length size at x
 measured-length size at (refusal number place) = refl
 
--- ---- a section that stands at the start of a space, by its length n
-
-pub put-low : (x : Answer (List ℕ)) (space : List ℕ) {n : ℕ} → lengthOf x ≡ answer n → Begins x space → n ≤ mostSectionBytes
-put-low (answer x) space {n} e h = let p : length x ≡ n = cc in omega (arith, h .1)
-put-low (refusal number place) space {n} e h = let z : _≡_ {A = ℕ} 0 1 = cc in absurd (omega arith)
-
--- That much of the space is the section.
-pub put-front : (x : Answer (List ℕ)) (space : List ℕ) {n : ℕ} → lengthOf x ≡ answer n → Begins x space → length (take n space) ≡ n
-put-front (answer x) space {n} e h = let p : length x ≡ n = cc in ap (λ (m : ℕ). length (take m space)) (sym p) ∙ ap length (h .0) ∙ p
-put-front (refusal number place) space {n} e h = let z : _≡_ {A = ℕ} 0 1 = cc in absurd (omega arith)
-
--- No such section.
-pub put-refused : (x : Answer (List ℕ)) (size : ℕ) {number place : ℕ} → lengthOf x ≡ refusal number place → after x (roomFor size 0) ≡ refusal number place
-put-refused (answer x) size e = cc
-put-refused (refusal number place) size e = cc
-
--- Too little room for it.
-pub put-short : (x : Answer (List ℕ)) (size : ℕ) {n : ℕ} → lengthOf x ≡ answer n → size < n → after x (roomFor size 0) ≡ refusal noRoom n
-put-short (answer x) size {n} e l =
-    let p : length x ≡ n = cc in
-    room-short size 0 x (omega arith) ∙ ap (refusal noRoom) p
-put-short (refusal number place) size {n} e l = cc
-
--- Room for it.
-pub put-fits : (x : Answer (List ℕ)) (size : ℕ) {n : ℕ} → lengthOf x ≡ answer n → n ≤ size → after x (roomFor size 0) ≡ x
-put-fits (answer x) size {n} e l =
-    let p : length x ≡ n = cc in
-    room-fits size 0 x (omega arith)
-put-fits (refusal number place) size {n} e l = refl
-
--- Its bytes copied.
-pub put-written : (x : Answer (List ℕ)) (space old new : List ℕ) {n : ℕ} → lengthOf x ≡ answer n → Begins x space → n ≤ length old
-    → new ≡ sets old 0 (take n space) → new ≡ written old 0 x
-put-written (answer x) space old new {n} e h l q =
-    let p : n ≡ length x = cc in
-    q ∙ ap (λ (m : ℕ). sets old 0 (take m space)) p ∙ ap (sets old 0) (h .0)
-    ∙ stores-written old x 0 (omega arith)
-put-written (refusal number place) space old new {n} e h l q = let z : _≡_ {A = ℕ} 0 1 = cc in absurd (omega arith)
+pub room-told : (size at : ℕ) (x : Answer (List ℕ)) {y r : Answer ℕ} → y ≡ lengthOf x → r ≡ after y (roomOf size at) → r ≡ lengthOf (after x (roomFor size at))
+room-told size at x e q = q ∙ ap (λ (z : Answer ℕ). after z (roomOf size at)) e ∙ sym (measured-length size at x)
 
 -- ---- the part of a text from a place on
 

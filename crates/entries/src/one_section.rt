@@ -2,25 +2,34 @@
 ghost use mathlib.Core.Path.{_≡_};
 ghost use Prim.Native.Nat.{_≤_};
 ghost use lib.ListN.{length};
-ghost use Rattle.basics.specs.Answers.{replyOf, lengthOf};
+ghost use Rattle.basics.specs.Answers.{after, replyOf, lengthOf};
 ghost use Rattle.rules.specs.Limits.{mostBound};
-ghost use Rattle.rules.specs.Refusals.{sectionFor, oneSection, written};
+ghost use Rattle.rules.specs.Refusals.{roomOf, sectionFor, oneSection, written};
 ghost use Rattle.words.specs.Words.{tableOf, Held};
 use basics::Reply;
 use opening::Opening;
-use rules::limits::MOST_SECTION_BYTES;
-use rules::reasons::NO_ROOM;
 
-// The length of a section of an opened table where there is room for it from the place on; nothing is written.
+// What the answer for a section says of a text of so many bytes, from a place on.
+fn reply_for(reply: Reply, size: u64, at: u64) -> Reply
+    ensures { λ r. ⌜ replyOf r ≡ after (replyOf reply) (roomOf size at) ⌝ }
+{
+    match reply {
+        Reply::Refused(number, place) => Reply::Refused(number, place),
+        Reply::Value(bytes) => crate::rooms::room(bytes, size, at),
+    }
+}
+
+// The length of a section of an opened table where there is room for it from the place on: no byte is lent to be written.
 fn measured(words: &[u64], bound: u64, form: u64, index: u64, size: usize, at: u64) -> Reply
     requires { ⌜ Held (now words) × (1 ≤ bound) × (bound ≤ mostBound) ⌝ }
     ensures { λ r. ⌜ replyOf r ≡ lengthOf (sectionFor bound form (tableOf (now (words .entry))) index size at) ⌝ }
 {
-    let mut space = [0u8; MOST_SECTION_BYTES];
-    match section::put_section(words, bound, form, index, &mut space) {
-        Reply::Refused(number, place) => Reply::Refused(number, place),
-        Reply::Value(bytes) => crate::rooms::room(bytes, size as u64, at),
-    }
+    let mut none = [0u8; 0];
+    reply_for(
+        section::put_section(words, bound, form, index, &mut none),
+        size as u64,
+        at,
+    )
 }
 
 // The section's length, and nothing written.
@@ -40,18 +49,12 @@ fn put(words: &[u64], bound: u64, form: u64, index: u64, part: &mut [u8]) -> Rep
     ensures { λ r. ⌜ replyOf r ≡ lengthOf (sectionFor bound form (tableOf (now (words .entry))) index (length (now (part .entry))) 0) ⌝ }
     ensures { λ _. ⌜ now (part .exit) ≡ written (now (part .entry)) 0 (sectionFor bound form (tableOf (now (words .entry))) index (length (now (part .entry))) 0) ⌝ }
 {
-    let mut space = [0u8; MOST_SECTION_BYTES];
-    match section::put_section(words, bound, form, index, &mut space) {
-        Reply::Refused(number, place) => Reply::Refused(number, place),
-        Reply::Value(bytes) => {
-            let size = bytes as usize;
-            if part.len() < size {
-                return Reply::Refused(NO_ROOM, bytes);
-            }
-            text::copy(part, 0, &space[..size]);
-            Reply::Value(bytes)
-        }
-    }
+    let size = part.len() as u64;
+    reply_for(
+        section::put_section(words, bound, form, index, part),
+        size,
+        0,
+    )
 }
 
 // The section in the text from the place on, and its length. A place past the end is no room: there the section is only measured.

@@ -14,15 +14,15 @@ ghost use Rattle.rules.specs.Problems.{variableCount, factNames, heightNames, s
 ghost use Rattle.laws.specs.Steps.{variableText};
 ghost use Rattle.words.specs.Words.{tableOf, Held};
 ghost use Rattle.problem.specs.Sizes.{mostVariables};
-ghost use Rattle.text.specs.Appends.{Appends};
+ghost use Rattle.text.specs.Puts.{Puts, farthest};
 ghost use Rattle.frame.specs.Frames.{labelled, variableHead, variable, positionNames, startLine, stateText, goalText};
 ghost use Rattle.frame.specs.Sizes.{headBytes, namesBytes, valuesBytes, stateBytes, goalBytes};
 use listing::Says;
 
 // Text, a number of at most three digits, a line feed.
 fn put_line(out: &mut [u8], at: usize, s: &[u8], n: u64) -> usize
-    requires { ⌜ (at + length (now s) + 4 ≤ length (now out)) × ThreeDigits n ⌝ }
-    ensures { λ r. ⌜ Appends (now (out .entry)) at (labelled (now (s .entry)) n) (now (out .exit)) r ⌝ }
+    requires { ⌜ (at + length (now s) + 4 ≤ farthest) × ThreeDigits n ⌝ }
+    ensures { λ r. ⌜ Puts (now (out .entry)) at (labelled (now (s .entry)) n) (now (out .exit)) r ⌝ }
     ensures { λ r. ⌜ r ≤ at + length (now (s .entry)) + 4 ⌝ }
 {
     let next = text::put_field(out, at, s, n);
@@ -31,8 +31,8 @@ fn put_line(out: &mut [u8], at: usize, s: &[u8], n: u64) -> usize
 
 // Version, metric, and how many variables there are.
 pub fn put_preamble(words: &[u64], bound: u64, out: &mut [u8], at: usize) -> usize
-    requires { ⌜ Held (now words) × (bound ≤ mostBound) × (at + mostSectionBytes ≤ length (now out)) ⌝ }
-    ensures { λ r. ⌜ Appends (now (out .entry)) at (preamble (variableCount bound (tableOf (now (words .entry))))) (now (out .exit)) r ⌝ }
+    requires { ⌜ Held (now words) × (bound ≤ mostBound) × (at + mostSectionBytes ≤ farthest) ⌝ }
+    ensures { λ r. ⌜ Puts (now (out .entry)) at (preamble (variableCount bound (tableOf (now (words .entry))))) (now (out .exit)) r ⌝ }
     ensures { λ r. ⌜ r ≤ at + mostSectionBytes ⌝ }
 {
     let count = problem::variable_count(words, bound);
@@ -46,8 +46,8 @@ pub fn put_preamble(words: &[u64], bound: u64, out: &mut [u8], at: usize) -> usi
 
 // A variable's section as far as its count of values.
 fn put_head(out: &mut [u8], at: usize, v: u64, values: u64) -> usize
-    requires { ⌜ (at + headBytes ≤ length (now out)) × ThreeDigits v × ThreeDigits values ⌝ }
-    ensures { λ r. ⌜ Appends (now (out .entry)) at (variableHead v values) (now (out .exit)) r ⌝ }
+    requires { ⌜ (at + headBytes ≤ farthest) × ThreeDigits v × ThreeDigits values ⌝ }
+    ensures { λ r. ⌜ Puts (now (out .entry)) at (variableHead v values) (now (out .exit)) r ⌝ }
     ensures { λ r. ⌜ r ≤ at + headBytes ⌝ }
 {
     let next = put_line(out, at, b"begin_variable\nvar", v);
@@ -56,8 +56,8 @@ fn put_head(out: &mut [u8], at: usize, v: u64, values: u64) -> usize
 
 // The names that one text and the numbers below n give.
 fn put_names(out: &mut [u8], at: usize, s: &[u8], n: u64) -> usize
-    requires { ⌜ (at + namesBytes ≤ length (now out)) × (length (now s) ≤ 3) × (n ≤ mostTasks) ⌝ }
-    ensures { λ r. ⌜ Appends (now (out .entry)) at (upto (labelled (now (s .entry))) n) (now (out .exit)) r ⌝ }
+    requires { ⌜ (at + namesBytes ≤ farthest) × (length (now s) ≤ 3) × (n ≤ mostTasks) ⌝ }
+    ensures { λ r. ⌜ Puts (now (out .entry)) at (upto (labelled (now (s .entry))) n) (now (out .exit)) r ⌝ }
     ensures { λ r. ⌜ r ≤ at + namesBytes ⌝ }
 {
     let mut next = at;
@@ -69,8 +69,8 @@ fn put_names(out: &mut [u8], at: usize, s: &[u8], n: u64) -> usize
 
 // Fact v: it holds, it doesn't.
 fn put_fact_variable(out: &mut [u8], at: usize, v: u64) -> usize
-    requires { ⌜ (at + mostSectionBytes ≤ length (now out)) × (v < mostFacts) ⌝ }
-    ensures { λ r. ⌜ Appends (now (out .entry)) at (spellVariable (variable v (factNames v))) (now (out .exit)) r ⌝ }
+    requires { ⌜ (at + mostSectionBytes ≤ farthest) × (v < mostFacts) ⌝ }
+    ensures { λ r. ⌜ Puts (now (out .entry)) at (spellVariable (variable v (factNames v))) (now (out .exit)) r ⌝ }
     ensures { λ r. ⌜ r ≤ at + mostSectionBytes ⌝ }
 {
     let holds = put_head(out, at, v, 2);
@@ -81,8 +81,8 @@ fn put_fact_variable(out: &mut [u8], at: usize, v: u64) -> usize
 
 // The top of the stack, a height for each value.
 fn put_top_variable(out: &mut [u8], at: usize, v: u64, bound: u64) -> usize
-    requires { ⌜ (at + mostSectionBytes ≤ length (now out)) × ThreeDigits v × (bound ≤ mostBound) ⌝ }
-    ensures { λ r. ⌜ Appends (now (out .entry)) at (spellVariable (variable v (heightNames bound))) (now (out .exit)) r ⌝ }
+    requires { ⌜ (at + mostSectionBytes ≤ farthest) × ThreeDigits v × (bound ≤ mostBound) ⌝ }
+    ensures { λ r. ⌜ Puts (now (out .entry)) at (spellVariable (variable v (heightNames bound))) (now (out .exit)) r ⌝ }
     ensures { λ r. ⌜ r ≤ at + mostSectionBytes ⌝ }
 {
     let heights = bound + 1;
@@ -93,8 +93,8 @@ fn put_top_variable(out: &mut [u8], at: usize, v: u64, bound: u64) -> usize
 
 // A position of the stack, a task for each value and one more for none.
 fn put_position_variable(out: &mut [u8], at: usize, v: u64, tasks: u64) -> usize
-    requires { ⌜ (at + mostSectionBytes ≤ length (now out)) × ThreeDigits v × (tasks ≤ mostTasks) ⌝ }
-    ensures { λ r. ⌜ Appends (now (out .entry)) at (spellVariable (variable v (positionNames tasks))) (now (out .exit)) r ⌝ }
+    requires { ⌜ (at + mostSectionBytes ≤ farthest) × ThreeDigits v × (tasks ≤ mostTasks) ⌝ }
+    ensures { λ r. ⌜ Puts (now (out .entry)) at (spellVariable (variable v (positionNames tasks))) (now (out .exit)) r ⌝ }
     ensures { λ r. ⌜ r ≤ at + mostSectionBytes ⌝ }
 {
     let names = put_head(out, at, v, tasks + 1);
@@ -104,8 +104,8 @@ fn put_position_variable(out: &mut [u8], at: usize, v: u64, tasks: u64) -> usize
 
 // Variable v: a fact, the top of the stack, or a position.
 pub fn put_variable(words: &[u64], bound: u64, v: u64, out: &mut [u8], at: usize) -> usize
-    requires { ⌜ Held (now words) × (bound ≤ mostBound) × (at + mostSectionBytes ≤ length (now out)) × (v < variableCount bound (tableOf (now words))) ⌝ }
-    ensures { λ r. ⌜ Appends (now (out .entry)) at (variableText bound (tableOf (now (words .entry))) v) (now (out .exit)) r ⌝ }
+    requires { ⌜ Held (now words) × (bound ≤ mostBound) × (at + mostSectionBytes ≤ farthest) × (v < variableCount bound (tableOf (now words))) ⌝ }
+    ensures { λ r. ⌜ Puts (now (out .entry)) at (variableText bound (tableOf (now (words .entry))) v) (now (out .exit)) r ⌝ }
     ensures { λ r. ⌜ r ≤ at + mostSectionBytes ⌝ }
 {
     let facts = words::fact_count(words);
@@ -147,8 +147,8 @@ fn start_value(words: &[u64], v: u64) -> u64
 
 // The start's line of variable v.
 fn put_value(words: &[u64], v: u64, out: &mut [u8], at: usize) -> usize
-    requires { ⌜ Held (now words) × (at + 4 ≤ length (now out)) ⌝ }
-    ensures { λ r. ⌜ Appends (now (out .entry)) at (startLine (tableOf (now (words .entry))) v) (now (out .exit)) r ⌝ }
+    requires { ⌜ Held (now words) × (at + 4 ≤ farthest) ⌝ }
+    ensures { λ r. ⌜ Puts (now (out .entry)) at (startLine (tableOf (now (words .entry))) v) (now (out .exit)) r ⌝ }
     ensures { λ r. ⌜ r ≤ at + 4 ⌝ }
 {
     let value = start_value(words, v);
@@ -157,8 +157,8 @@ fn put_value(words: &[u64], v: u64, out: &mut [u8], at: usize) -> usize
 
 // The start's lines of n variables.
 fn put_values(words: &[u64], n: u64, out: &mut [u8], at: usize) -> usize
-    requires { ⌜ Held (now words) × (n ≤ mostVariables) × (at + valuesBytes ≤ length (now out)) ⌝ }
-    ensures { λ r. ⌜ Appends (now (out .entry)) at (upto (startLine (tableOf (now (words .entry)))) n) (now (out .exit)) r ⌝ }
+    requires { ⌜ Held (now words) × (n ≤ mostVariables) × (at + valuesBytes ≤ farthest) ⌝ }
+    ensures { λ r. ⌜ Puts (now (out .entry)) at (upto (startLine (tableOf (now (words .entry)))) n) (now (out .exit)) r ⌝ }
     ensures { λ r. ⌜ r ≤ at + valuesBytes ⌝ }
 {
     let mut next = at;
@@ -170,8 +170,8 @@ fn put_values(words: &[u64], n: u64, out: &mut [u8], at: usize) -> usize
 
 // No mutexes; what each variable is at the start.
 fn put_state(words: &[u64], bound: u64, out: &mut [u8], at: usize) -> usize
-    requires { ⌜ Held (now words) × (bound ≤ mostBound) × (at + stateBytes ≤ length (now out)) ⌝ }
-    ensures { λ r. ⌜ Appends (now (out .entry)) at (stateText bound (tableOf (now (words .entry)))) (now (out .exit)) r ⌝ }
+    requires { ⌜ Held (now words) × (bound ≤ mostBound) × (at + stateBytes ≤ farthest) ⌝ }
+    ensures { λ r. ⌜ Puts (now (out .entry)) at (stateText bound (tableOf (now (words .entry)))) (now (out .exit)) r ⌝ }
     ensures { λ r. ⌜ r ≤ at + stateBytes ⌝ }
 {
     let count = problem::variable_count(words, bound);
@@ -182,8 +182,8 @@ fn put_state(words: &[u64], bound: u64, out: &mut [u8], at: usize) -> usize
 
 // The goal facts, then top 0.
 fn put_goal(words: &[u64], out: &mut [u8], at: usize) -> usize
-    requires { ⌜ Held (now words) × (at + goalBytes ≤ length (now out)) ⌝ }
-    ensures { λ r. ⌜ Appends (now (out .entry)) at (goalText (tableOf (now (words .entry)))) (now (out .exit)) r ⌝ }
+    requires { ⌜ Held (now words) × (at + goalBytes ≤ farthest) ⌝ }
+    ensures { λ r. ⌜ Puts (now (out .entry)) at (goalText (tableOf (now (words .entry)))) (now (out .exit)) r ⌝ }
     ensures { λ r. ⌜ r ≤ at + goalBytes ⌝ }
 {
     let facts = words::fact_count(words);
@@ -197,8 +197,8 @@ fn put_goal(words: &[u64], out: &mut [u8], at: usize) -> usize
 
 // State, goal, and how many operators there are.
 pub fn put_middle(words: &[u64], bound: u64, form: u64, out: &mut [u8], at: usize) -> usize
-    requires { ⌜ Held (now words) × (bound ≤ mostBound) × (at + mostSectionBytes ≤ length (now out)) ⌝ }
-    ensures { λ r. ⌜ Appends (now (out .entry)) at (middle (problemOf bound form (tableOf (now (words .entry))))) (now (out .exit)) r ⌝ }
+    requires { ⌜ Held (now words) × (bound ≤ mostBound) × (at + mostSectionBytes ≤ farthest) ⌝ }
+    ensures { λ r. ⌜ Puts (now (out .entry)) at (middle (problemOf bound form (tableOf (now (words .entry))))) (now (out .exit)) r ⌝ }
     ensures { λ r. ⌜ r ≤ at + mostSectionBytes ⌝ }
 {
     let operators = operators::operator_count(words, bound, form);

@@ -1,12 +1,11 @@
 // The lines of the facts of a set. No other writer walks over a set.
 ghost use mathlib.Core.Path.{_≡_};
 ghost use Prim.Native.Nat.{_+_, _≤_, _<_};
-ghost use lib.ListN.{length};
 ghost use Rattle.version3.specs.Spelling.{spellSetting, spellEffect};
 ghost use Rattle.rules.specs.Limits.{mostFacts};
 ghost use Rattle.rules.specs.Problems.{set as Problems·set, factEffect};
 ghost use Rattle.facts.specs.Sets.{setOf};
-ghost use Rattle.text.specs.Appends.{Appends};
+ghost use Rattle.text.specs.Puts.{Puts, farthest};
 ghost use Rattle.listing.specs.Listings.{holdBytes, changeBytes, beforeBytes, afterBytes, lineWhere, listText, lineBytes, listBytes};
 use facts::Set;
 
@@ -18,8 +17,8 @@ pub enum Says {
 
 // That fact k holds.
 fn put_holds(out: &mut [u8], at: usize, k: u64) -> usize
-    requires { ⌜ (at + holdBytes ≤ length (now out)) × (k < mostFacts) ⌝ }
-    ensures { λ r. ⌜ Appends (now (out .entry)) at (spellSetting (Problems·set k 0)) (now (out .exit)) r ⌝ }
+    requires { ⌜ (at + holdBytes ≤ farthest) × (k < mostFacts) ⌝ }
+    ensures { λ r. ⌜ Puts (now (out .entry)) at (spellSetting (Problems·set k 0)) (now (out .exit)) r ⌝ }
     ensures { λ r. ⌜ r ≤ at + holdBytes ⌝ }
 {
     let next = text::put_field(out, at, b"", k);
@@ -28,8 +27,8 @@ fn put_holds(out: &mut [u8], at: usize, k: u64) -> usize
 
 // The value before: a needed fact holds, of any other nothing is said.
 fn put_before(out: &mut [u8], at: usize, needed: bool) -> usize
-    requires { ⌜ at + 4 ≤ length (now out) ⌝ }
-    ensures { λ r. ⌜ Appends (now (out .entry)) at (beforeBytes needed) (now (out .exit)) r ⌝ }
+    requires { ⌜ at + 4 ≤ farthest ⌝ }
+    ensures { λ r. ⌜ Puts (now (out .entry)) at (beforeBytes needed) (now (out .exit)) r ⌝ }
     ensures { λ r. ⌜ r ≤ at + 4 ⌝ }
 {
     if needed {
@@ -40,8 +39,8 @@ fn put_before(out: &mut [u8], at: usize, needed: bool) -> usize
 
 // The value after: a deleted fact no longer holds, an added one does.
 fn put_after(out: &mut [u8], at: usize, deleted: bool) -> usize
-    requires { ⌜ at + 2 ≤ length (now out) ⌝ }
-    ensures { λ r. ⌜ Appends (now (out .entry)) at (afterBytes deleted) (now (out .exit)) r ⌝ }
+    requires { ⌜ at + 2 ≤ farthest ⌝ }
+    ensures { λ r. ⌜ Puts (now (out .entry)) at (afterBytes deleted) (now (out .exit)) r ⌝ }
     ensures { λ r. ⌜ r ≤ at + 2 ⌝ }
 {
     if deleted {
@@ -52,8 +51,8 @@ fn put_after(out: &mut [u8], at: usize, deleted: bool) -> usize
 
 // How fact k changes.
 fn put_change(out: &mut [u8], at: usize, needs: Set, dels: Set, k: u64) -> usize
-    requires { ⌜ (at + changeBytes ≤ length (now out)) × (k < mostFacts) ⌝ }
-    ensures { λ r. ⌜ Appends (now (out .entry)) at (spellEffect (factEffect (setOf needs) (setOf dels) k)) (now (out .exit)) r ⌝ }
+    requires { ⌜ (at + changeBytes ≤ farthest) × (k < mostFacts) ⌝ }
+    ensures { λ r. ⌜ Puts (now (out .entry)) at (spellEffect (factEffect (setOf needs) (setOf dels) k)) (now (out .exit)) r ⌝ }
     ensures { λ r. ⌜ r ≤ at + changeBytes ⌝ }
 {
     let value = text::put_field(out, at, b"0 ", k);
@@ -63,8 +62,8 @@ fn put_change(out: &mut [u8], at: usize, needs: Set, dels: Set, k: u64) -> usize
 
 // The line of fact k, where the set has it.
 fn put_line(out: &mut [u8], at: usize, says: Says, set: Set, k: u64) -> usize
-    requires { ⌜ (at + lineBytes says ≤ length (now out)) × (k < mostFacts) ⌝ }
-    ensures { λ r. ⌜ Appends (now (out .entry)) at (lineWhere says (setOf set) k) (now (out .exit)) r ⌝ }
+    requires { ⌜ (at + lineBytes says ≤ farthest) × (k < mostFacts) ⌝ }
+    ensures { λ r. ⌜ Puts (now (out .entry)) at (lineWhere says (setOf set) k) (now (out .exit)) r ⌝ }
     ensures { λ r. ⌜ r ≤ at + lineBytes says ⌝ }
 {
     if !facts::has(set, k) {
@@ -78,8 +77,8 @@ fn put_line(out: &mut [u8], at: usize, says: Says, set: Set, k: u64) -> usize
 
 // The lines of the facts of a set, of n facts in all.
 pub fn put_lines(out: &mut [u8], at: usize, says: Says, set: Set, n: u64) -> usize
-    requires { ⌜ (at + listBytes says ≤ length (now out)) × (n ≤ mostFacts) ⌝ }
-    ensures { λ r. ⌜ Appends (now (out .entry)) at (listText says n (setOf set)) (now (out .exit)) r ⌝ }
+    requires { ⌜ (at + listBytes says ≤ farthest) × (n ≤ mostFacts) ⌝ }
+    ensures { λ r. ⌜ Puts (now (out .entry)) at (listText says n (setOf set)) (now (out .exit)) r ⌝ }
     ensures { λ r. ⌜ r ≤ at + listBytes says ⌝ }
 {
     let mut next = at;

@@ -1,16 +1,15 @@
--- Which section a number chooses, and what a writer of it leaves.
-use mathlib.Core.Path.{_≡_, sym, ap, subst, _∙_}
+-- Which section a number chooses.
+use mathlib.Core.Path.{_≡_, ap, _∙_}
 use mathlib.Core.List.{List, []}
 use Prim.Native.Nat.{ℕ, suc, _+_, _-_, _≤_, _<_}
 use native.Mathlib.Omega.{arith}
 use borrow.Author.Tests.{lt-ltb, le-ltb}
-use lib.ListN.{length, getD, take}
-use Rattle.basics.specs.Answers.{Answer, answer, refusal, lengthOf}
+use lib.ListN.{length, getD}
+use Rattle.basics.specs.Answers.{answer, refusal}
 use Rattle.rules.specs.Tables.{Table}
 use Rattle.rules.specs.Operators.{Operator, operatorsOf}
 use Rattle.basics.specs.Texts.{bytes}
 use Rattle.version3.specs.Spelling.{preamble, middle}
-use Rattle.rules.specs.Limits.{mostSectionBytes}
 use Rattle.rules.specs.Reasons.{noSuchSection}
 use Rattle.rules.specs.Problems.{variableCount, problemOf}
 use Rattle.rules.specs.Sections.{sectionsOf}
@@ -19,8 +18,6 @@ use Rattle.laws.specs.Steps.{stepAt, variableText, operatorText}
 use Rattle.laws.proofs.CountLaws.{sections-length}
 use Rattle.laws.proofs.SectionLaws.{section-first, section-variable, section-middle, section-operator, section-last}
 use Rattle.problem.specs.Places.{IsPlace}
-use Rattle.text.specs.Appends.{Appends}
-use Rattle.section.specs.Chosen.{Begins}
 use Rattle.section.specs.Operators.{operatorTextAt}
 
 module _ (b f : ℕ) (t : Table) (k : ℕ) where
@@ -50,14 +47,3 @@ module _ (b f : ℕ) (t : Table) (k : ℕ) where
 
     pub chosen-none : (over : ℕ) → n ≡ length (operatorsOf b f t) + over → (over ≡ 0 → ⊥) → chosen (sectionsOf b f t) k ≡ refusal noSuchSection 0
     chosen-none over h z = rw (le-ltb k (length (sectionsOf b f t)) (omega (arith, sections-length b f t)))
-
--- The section stands at the start of the space.
-pub begins : {old x new : List ℕ} {r : ℕ} (y : Answer (List ℕ)) → y ≡ answer x → Appends old 0 x new r → r ≤ mostSectionBytes → (answer r ≡ lengthOf y) × Begins y new
-begins {old} {x} {new} {r} y e w l =
-    let n : r ≡ length x = omega (arith, w .next) in (
-      ap answer n ∙ sym (ap lengthOf e),
-      subst (λ (z : Answer (List ℕ)). Begins z new) (sym e) (ap (λ (m : ℕ). take m new) (sym n) ∙ w .text, omega arith),
-    )
-
-pub refused : (new : List ℕ) (y : Answer (List ℕ)) {number place : ℕ} → y ≡ refusal number place → (refusal number place ≡ lengthOf y) × Begins y new
-refused new y e = (sym (ap lengthOf e), subst (λ (z : Answer (List ℕ)). Begins z new) (sym e) tt)

@@ -1,6 +1,6 @@
 -- Drawing a template, text by text and number by number, and rendering it.
 use Prim.Native.Nat.{ℕ, zero, suc, _+_, _-_, _≤_, _<_, zero-le}
-use mathlib.Core.Path.{_≡_, refl, sym, ap, _∙_}
+use mathlib.Core.Path.{_≡_, refl, sym, ap, ap₂, _∙_}
 use mathlib.Core.List.{List, [], _++_, append-nil, append-assoc}
 use lib.ListN.{length, take, drop, getD, set, length-drop, length-set}
 use lib.Seq.{take-take, take-at, take-all, drop-append-le, length-take-le, getD-set-same, getD-set-other}
@@ -12,7 +12,7 @@ use Rattle.basics.specs.Texts.{digits}
 use Rattle.laws.proofs.ListLaws.{sum-same, sum-more}
 use Rattle.laws.proofs.TextLaws.{upto-more, upto-same}
 use Rattle.text.specs.Appends.{Appends}
-use Rattle.text.proofs.AppendLaws.{_▸_, appends-is, drop-take}
+use Rattle.text.proofs.AppendLaws.{drop-take}
 use Rattle.template.specs.declared.Pen.{Pen}
 use Rattle.template.specs.Sizes.{mostOffset}
 use Rattle.template.specs.Templates.{PenStands, Drawn, startOf, turn, rendered}
@@ -142,20 +142,26 @@ drawn-number {t} {lens} {offs} {pen} {x} o most h k d =
 
 -- ---- Rendering.
 
--- A turn of the writer: a segment and the number after it.
-pub turn-more : {o n m q : List ℕ} {at r s v : ℕ} (t lens offs : List ℕ) (p j from : ℕ) → from ≡ startOf lens j
-    → Appends o at (upto (turn t lens offs p) j) n r
-    → Appends n r (take (getD lens j 0) (drop from t)) m s
-    → Appends m s (digits (p + getD offs j 0)) q v
-    → Appends o at (upto (turn t lens offs p) (j + 1)) q v
-unfolding turn
-turn-more t lens offs p j from e a b c =
-    appends-is (upto-more (turn t lens offs p) j) (a ▸ (appends-is (ap (λ (k : ℕ). take (getD lens j 0) (drop k t)) (sym e)) b ▸ c))
+module _ (t lens offs : List ℕ) (p j from : ℕ) where
+  -- A turn of a writer: a segment and the number after it.
+  pub turn-more : from ≡ startOf lens j
+      → upto (turn t lens offs p) (j + 1) ≡ upto (turn t lens offs p) j ++ (take (getD lens j 0) (drop from t) ++ digits (p + getD offs j 0))
+  unfolding turn
+  turn-more e =
+      upto-more (turn t lens offs p) j
+      ∙ ap (λ (k : ℕ). upto (turn t lens offs p) j ++ (take (getD lens j 0) (drop k t) ++ digits (p + getD offs j 0))) (sym e)
 
--- The last segment.
-pub turn-last : {o n m : List ℕ} {at r s : ℕ} (t lens offs : List ℕ) (pen : Pen) (p j from : ℕ) → j ≡ pen .count → from ≡ pen .from
-    → Appends o at (upto (turn t lens offs p) j) n r → Appends n r (take (pen .at - from) (drop from t)) m s
-    → Appends o at (rendered t lens offs pen p) m s
-unfolding rendered
-turn-last t lens offs pen p j from f e a b =
-    appends-is (ap (upto (turn t lens offs p)) (sym f)) a ▸ appends-is (ap (λ (k : ℕ). take (pen .at - k) (drop k t)) (sym e)) b
+  -- The last segment.
+  pub turn-last : (pen : Pen) → j ≡ pen .count → from ≡ pen .from
+      → rendered t lens offs pen p ≡ upto (turn t lens offs p) j ++ take (pen .at - from) (drop from t)
+  unfolding rendered
+  turn-last pen f e =
+      ap₂ (λ (n k : ℕ). upto (turn t lens offs p) n ++ take (pen .at - k) (drop k t)) (sym f) (sym e)
+
+-- A part of a text, from a place to another.
+module _ (t : List ℕ) (from n : ℕ) where
+  pub cut-is : take n (drop from t) ≡ take (from + n - from) (drop from t)
+  cut-is = let e : n ≡ from + n - from = omega arith in ap (λ (k : ℕ). take k (drop from t)) e
+
+  pub cut-long : from + n ≤ length t → length (take (from + n - from) (drop from t)) ≡ n
+  cut-long h = ap length (sym cut-is) ∙ length-take-le n (drop from t) (rw length-drop (omega arith))

@@ -1,5 +1,5 @@
 // Text that is composed once and rendered at each position. Writers here move a chunk of bytes at a time, so they may also
-// change as many bytes after what they write.
+// change as many bytes after what they write; `put_exactly` alone changes none.
 ghost use mathlib.Core.Path.{_≡_};
 ghost use mathlib.Core.List.{List, [], _∷_, _++_};
 ghost use Prim.Native.Nat.{ℕ, _+_, _*_, _-_, _≤_, _<_};
@@ -8,6 +8,7 @@ ghost use Rattle.basics.specs.Lists.{upto};
 ghost use Rattle.basics.specs.Texts.{digits, ThreeDigits};
 ghost use Rattle.rules.specs.Limits.{mostBound};
 ghost use Rattle.text.specs.Appends.{Appends};
+ghost use Rattle.text.specs.Puts.{Puts, farthest};
 ghost use Rattle.template.specs.Sizes.{chunk, margin, mostOffset, figureCount, figureBytes, operatorBytes};
 ghost use Rattle.template.specs.Figures.{Figures, figure};
 ghost use Rattle.template.specs.Templates.{PenStands, Drawn, rendered};
@@ -151,8 +152,35 @@ pub fn number(lens: &mut [usize], offs: &mut [usize], pen: Pen, o: usize) -> Pen
     }
 }
 
+// The template's text at the position p, byte by byte: nothing after it changes.
+pub fn put_exactly(
+    out: &mut [u8],
+    at: usize,
+    t: &[u8],
+    lens: &[usize],
+    offs: &[usize],
+    pen: Pen,
+    p: usize,
+) -> usize
+    requires { ⌜ PenStands (now t) (now lens) (now offs) pen × (p < mostBound) × (at + pen .at + 3 * pen .count ≤ farthest) ⌝ }
+    ensures { λ r. ⌜ Puts (now (out .entry)) at (rendered (now (t .entry)) (now (lens .entry)) (now (offs .entry)) pen p) (now (out .exit)) r ⌝ }
+{
+    let mut next = at;
+    let mut from = 0;
+    for j in 0..pen.count {
+        let n = lens[j];
+        let end = from + n;
+        let o = offs[j];
+        let v = (p + o) as u64;
+        next = text::put_field(out, next, &t[from..end], v);
+        from = end;
+    }
+    let end = pen.at;
+    text::put(out, next, &t[from..end])
+}
+
 // The template's text at the position p.
-pub fn put_rendered(
+fn put_rendered(
     out: &mut [u8],
     at: usize,
     t: &[u8],

@@ -1,1 +1,2 @@
 pub mod AppendLaws
+pub mod PutLaws

@@ -1,1 +1,2 @@
 pub mod Appends
+pub mod Puts

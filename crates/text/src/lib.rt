@@ -1,11 +1,12 @@
-// Bytes, decimal numbers and lines, each written at a place in text that is lent; the place after it is handed back.
+// Bytes, decimal numbers and lines, each written at a place in text that is lent; the place after it is handed back. Where the text
+// ends before that place, it is only counted: lent no text at all, a writer measures.
 ghost use mathlib.Core.Path.{_≡_};
-ghost use mathlib.Core.List.{_++_};
+ghost use mathlib.Core.List.{[], _∷_, _++_};
 ghost use Prim.Native.Nat.{_+_, _≤_};
 ghost use lib.ListN.{length};
 ghost use lib.Seq.{sets};
 ghost use Rattle.basics.specs.Texts.{digits, ThreeDigits};
-ghost use Rattle.text.specs.Appends.{Appends};
+ghost use Rattle.text.specs.Puts.{Puts, farthest};
 
 // Bytes that are known to fit; nothing else changes.
 pub fn copy(out: &mut [u8], at: usize, s: &[u8])
@@ -20,32 +21,46 @@ pub fn copy(out: &mut [u8], at: usize, s: &[u8])
 }
 
 pub fn put(out: &mut [u8], at: usize, s: &[u8]) -> usize
-    requires { ⌜ at + length (now s) ≤ length (now out) ⌝ }
-    ensures { λ r. ⌜ Appends (now (out .entry)) at (now (s .entry)) (now (out .exit)) r ⌝ }
+    requires { ⌜ at + length (now s) ≤ farthest ⌝ }
+    ensures { λ r. ⌜ Puts (now (out .entry)) at (now (s .entry)) (now (out .exit)) r ⌝ }
 {
+    let next = at + s.len();
+    if out.len() < next {
+        return next;
+    }
     copy(out, at, s);
-    at + s.len()
+    next
+}
+
+fn put_byte(out: &mut [u8], at: usize, b: u8) -> usize
+    requires { ⌜ at + 1 ≤ farthest ⌝ }
+    ensures { λ r. ⌜ Puts (now (out .entry)) at (b ∷ []) (now (out .exit)) r ⌝ }
+{
+    let next = at + 1;
+    if out.len() < next {
+        return next;
+    }
+    out[at] = b;
+    next
 }
 
 // n in decimal.
 fn put_digits(out: &mut [u8], at: usize, n: u64) -> usize
-    requires { ⌜ at + length (digits n) ≤ length (now out) ⌝ }
-    ensures { λ r. ⌜ Appends (now (out .entry)) at (digits n) (now (out .exit)) r ⌝ }
+    requires { ⌜ at + length (digits n) ≤ farthest ⌝ }
+    ensures { λ r. ⌜ Puts (now (out .entry)) at (digits n) (now (out .exit)) r ⌝ }
 {
     let last = b'0' + (n % 10) as u8;
     if n < 10 {
-        out[at] = last;
-        return at + 1;
+        return put_byte(out, at, last);
     }
     let next = put_digits(out, at, n / 10);
-    out[next] = last;
-    next + 1
+    put_byte(out, next, last)
 }
 
 // Any number: 20 digits at most.
 pub fn put_number(out: &mut [u8], at: usize, n: u64) -> usize
-    requires { ⌜ at + 20 ≤ length (now out) ⌝ }
-    ensures { λ r. ⌜ Appends (now (out .entry)) at (digits n) (now (out .exit)) r ⌝ }
+    requires { ⌜ at + 20 ≤ farthest ⌝ }
+    ensures { λ r. ⌜ Puts (now (out .entry)) at (digits n) (now (out .exit)) r ⌝ }
     ensures { λ r. ⌜ r ≤ at + 20 ⌝ }
 {
     put_digits(out, at, n)
@@ -53,8 +68,8 @@ pub fn put_number(out: &mut [u8], at: usize, n: u64) -> usize
 
 // Text, and a number of at most three digits after it.
 pub fn put_field(out: &mut [u8], at: usize, s: &[u8], n: u64) -> usize
-    requires { ⌜ (at + length (now s) + 3 ≤ length (now out)) × ThreeDigits n ⌝ }
-    ensures { λ r. ⌜ Appends (now (out .entry)) at (now (s .entry) ++ digits n) (now (out .exit)) r ⌝ }
+    requires { ⌜ (at + length (now s) + 3 ≤ farthest) × ThreeDigits n ⌝ }
+    ensures { λ r. ⌜ Puts (now (out .entry)) at (now (s .entry) ++ digits n) (now (out .exit)) r ⌝ }
     ensures { λ r. ⌜ r ≤ at + length (now (s .entry)) + 3 ⌝ }
 {
     let next = put(out, at, s);

@@ -20,7 +20,8 @@ put-lines-requires : tie.Need-put-lines-requires
 put-lines-requires c κs =
     let a = c .before .before .before .before .before .before .before in
     let s = a .pre in
-    (space-after {z = fixed [] (listBytes (a .args .says))} (s .0) (c .before .before .before .field-line .ensures [] []) (omega arith) .bytes, s .2)
+    let left = space-after {z = fixed [] (listBytes (a .args .says))} (s .0) (c .before .before .before .field-line .ensures [] []) (omega arith) in
+    (omega (arith, left .bytes), s .2)
 
 same-length : tie.Need-same-length
 same-length c = search needs

@@ -1,6 +1,6 @@
 use borrow.Author.Needs.{needs}
 use native.Mathlib.Omega.{arith}
-use Rattle.text.proofs.AppendLaws.{_▸_, appends-is}
+use Rattle.text.proofs.PutLaws.{_▹_, puts-is}
 use Rattle.drawing.proofs.DrawLaws.{draws-text}
 use Rattle.compose.proofs.GroupLaws.{cost-words}
 use Rattle.compose.proofs.put_cost.Statement.{statement}
@@ -16,7 +16,7 @@ put-requires : tie.Need-put-requires
 put-requires c κs =
     let t = c .before .before .before .before in
     let n = t .put-number .ensures in
-    omega (arith, t .before .before .before .pre .bytes, n .1, n .0 .size)
+    omega (arith, t .before .before .before .pre .bytes, n .1)
 
 same-length : tie.Need-same-length
 same-length c = search needs
@@ -28,7 +28,7 @@ returns c =
     let s = t .before .before .before in
     let n = t .put-number .ensures in
     let e = p .put .ensures in
-    λ lens offs. draws-text (s .pre) (omega (arith, n .1, e .next)) (appends-is (cost-words (s .args .cost)) (n .0 ▸ e))
+    λ lens offs. draws-text (s .pre) (omega (arith, n .1, e .next)) (puts-is (cost-words (s .args .cost)) (n .0 ▹ e))
 
 pub put-cost-spec : {M : Type 1} → statement M
 put-cost-spec =

@@ -5,7 +5,7 @@ use Rattle.drawing.proofs.write.Statement.{statement}
 use Rattle.drawing.proofs.write.Tie as tie
 
 put-requires : tie.Need-put-requires
-put-requires c κs = c .before .before .before .pre .bytes
+put-requires c κs = omega (arith, c .before .before .before .pre .bytes)
 
 same-length : tie.Need-same-length
 same-length c = search needs

@@ -1,6 +1,7 @@
 use native.Mathlib.Omega.{arith}
 use Rattle.laws.specs.Steps.{frontText}
 use Rattle.text.proofs.AppendLaws.{_▸_}
+use Rattle.text.proofs.PutLaws.{appended}
 use borrow.Author.Needs.{needs}
 use Rattle.emission.proofs.put_front.Statement.{statement}
 use Rattle.emission.proofs.put_front.Tie as tie
@@ -22,8 +23,11 @@ unfolding frontText
 returns c =
     let p3 = c .before .before in
     let p2 = p3 .before .before .before .before in
-    let p1 = p2 .before .before .before .before in (
-      p1 .put-preamble .ensures .0 ▸ p2 .put-variables .ensures .0 ▸ p3 .put-middle .ensures .0,
+    let p1 = p2 .before .before .before .before in
+    let s = p1 .before .before .before .before in
+    let first = appended (p1 .put-preamble .ensures .0) (omega (arith, p1 .put-preamble .ensures .1, s .pre .2)) in
+    let last = appended (p3 .put-middle .ensures .0) (omega (arith, first .size, p2 .put-variables .ensures .0 .size, p1 .put-preamble .ensures .1, p2 .put-variables .ensures .1, p3 .put-middle .ensures .1, s .pre .2)) in (
+      first ▸ p2 .put-variables .ensures .0 ▸ last,
       omega (arith, p1 .put-preamble .ensures .1, p2 .put-variables .ensures .1, p3 .put-middle .ensures .1),
     )
 

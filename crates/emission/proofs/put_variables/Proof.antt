@@ -11,6 +11,7 @@ use Rattle.words.specs.Words.{tableOf}
 use Rattle.problem.specs.Sizes.{mostVariables}
 use Rattle.text.specs.Appends.{Appends}
 use Rattle.text.proofs.AppendLaws.{_▸_, appends-is, appends-none}
+use Rattle.text.proofs.PutLaws.{appended}
 use Rattle.emission.proofs.put_variables.Statement.{statement}
 use Rattle.emission.proofs.put_variables.Tie as tie
 
@@ -44,9 +45,11 @@ loop-less c = search needs
 loop-again : tie.Need-loop-again Inv-loop μ-loop
 loop-again c =
     let p = c .before .before in
-    let l = p .before .before .before in (
+    let l = p .before .before .before in
+    let s = l .before .before .before .before in
+    let fits = appended (p .put-variable .ensures .0) (omega (arith, p .put-variable .ensures .1, l .loop .inv .1 .size, l .loop .inv .2, l .loop .inv .4, s .pre .2)) in (
       omega arith,
-      appends-is (upto-more _ _) (l .loop .inv .1 ▸ p .put-variable .ensures .0),
+      appends-is (upto-more _ _) (l .loop .inv .1 ▸ fits),
       omega (arith, p .put-variable .ensures .1),
       l .loop .inv .3,
       l .loop .inv .4,

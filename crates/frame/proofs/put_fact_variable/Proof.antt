@@ -1,5 +1,5 @@
 use native.Mathlib.Omega.{arith}
-use Rattle.text.proofs.AppendLaws.{_▸_, appends-is}
+use Rattle.text.proofs.PutLaws.{_▹_, puts-is}
 use Rattle.frame.proofs.FrameLaws.{fact-lines}
 use borrow.Author.Needs.{needs}
 use Rattle.frame.proofs.put_fact_variable.Statement.{statement}
@@ -35,8 +35,8 @@ returns c =
     let p3 = p4 .before .before .before .before .before in
     let p2 = p3 .before .before .before .before .before in
     let p1 = p2 .before .before .before .before .before in (
-      appends-is (fact-lines (p1 .before .before .before .args .v))
-          (p1 .put-head .ensures .0 ▸ p2 .put-line .ensures .0 ▸ p3 .put-line2 .ensures .0 ▸ p4 .put .ensures),
+      puts-is (fact-lines (p1 .before .before .before .args .v))
+          (p1 .put-head .ensures .0 ▹ p2 .put-line .ensures .0 ▹ p3 .put-line2 .ensures .0 ▹ p4 .put .ensures),
       omega (arith, p1 .put-head .ensures .1, p2 .put-line .ensures .1, p3 .put-line2 .ensures .1, p4 .put .ensures .next),
     )
 

@@ -1,7 +1,7 @@
 use borrow.Author.Needs.{needs}
 use native.Mathlib.Omega.{arith}
 use Rattle.words.specs.Words.{tableOf}
-use Rattle.text.proofs.AppendLaws.{_▸_, appends-is}
+use Rattle.text.proofs.PutLaws.{_▹_, puts-is}
 use Rattle.frame.proofs.FrameLaws.{goal-lines}
 use Rattle.frame.proofs.put_goal.Statement.{statement}
 use Rattle.frame.proofs.put_goal.Tie as tie
@@ -52,9 +52,9 @@ returns c =
     let g = n .before in
     let f = g .before in
     let s = f .before .before .before in (
-      appends-is (goal-lines (tableOf (s .args .words .now)) (s .pre .0 .valid))
+      puts-is (goal-lines (tableOf (s .args .words .now)) (s .pre .0 .valid))
           (rw (← g .goal-facts .ensures, ← f .fact-count .ensures, ← n .count .ensures .0)
-          (p1 .put-line .ensures .0 ▸ p2 .put-lines .ensures .0 ▸ p3 .put-field .ensures .0 ▸ p4 .put .ensures)),
+          (p1 .put-line .ensures .0 ▹ p2 .put-lines .ensures .0 ▹ p3 .put-field .ensures .0 ▹ p4 .put .ensures)),
       omega (arith, p1 .put-line .ensures .1, p2 .put-lines .ensures .1, p3 .put-field .ensures .1, p4 .put .ensures .next),
     )
 

@@ -1,5 +1,5 @@
 use native.Mathlib.Omega.{arith}
-use Rattle.text.proofs.AppendLaws.{_▸_, appends-is}
+use Rattle.text.proofs.PutLaws.{_▹_, puts-is}
 use Rattle.frame.proofs.FrameLaws.{head-lines}
 use borrow.Author.Needs.{needs}
 use Rattle.frame.proofs.put_head.Statement.{statement}
@@ -25,7 +25,7 @@ returns c =
     let q = c .before .before in
     let p = q .before .before .before .before .before in
     let a = p .before .before .before .before .args in (
-      appends-is (head-lines (a .v) (a .values)) (p .put-line .ensures .0 ▸ q .put-line2 .ensures .0),
+      puts-is (head-lines (a .v) (a .values)) (p .put-line .ensures .0 ▹ q .put-line2 .ensures .0),
       omega (arith, p .put-line .ensures .1, q .put-line2 .ensures .1),
     )
 

@@ -1,5 +1,5 @@
 use native.Mathlib.Omega.{arith}
-use Rattle.text.proofs.AppendLaws.{_▸_}
+use Rattle.text.proofs.PutLaws.{_▹_}
 use borrow.Author.Needs.{needs}
 use Rattle.frame.proofs.put_line.Statement.{statement}
 use Rattle.frame.proofs.put_line.Tie as tie
@@ -20,7 +20,7 @@ returns : tie.Need-returns
 returns c =
     let q = c .before .before in
     let p = q .before .before .before .before .before in
-    (p .put-field .ensures .0 ▸ q .put .ensures, omega (arith, p .put-field .ensures .1, q .put .ensures .next))
+    (p .put-field .ensures .0 ▹ q .put .ensures, omega (arith, p .put-field .ensures .1, q .put .ensures .next))
 
 pub put-line-spec : {M : Type 1} → statement M
 put-line-spec =

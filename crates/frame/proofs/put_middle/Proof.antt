@@ -1,6 +1,6 @@
 use native.Mathlib.Omega.{arith}
 use Rattle.words.specs.Words.{tableOf}
-use Rattle.text.proofs.AppendLaws.{_▸_, appends-is}
+use Rattle.text.proofs.PutLaws.{_▹_, puts-is}
 use Rattle.frame.proofs.FrameLaws.{middle-lines}
 use borrow.Author.Needs.{needs}
 use Rattle.frame.proofs.put_middle.Statement.{statement}
@@ -35,8 +35,8 @@ returns c =
     let p1 = p2 .before .before .before .before in
     let n = p1 .before .before in
     let a = n .before .before .before .args in (
-      appends-is (middle-lines (a .bound) (a .form) (tableOf (a .words .now)))
-          (rw (← n .operator-count .ensures) (p1 .put-state .ensures .0 ▸ p2 .put-goal .ensures .0 ▸ p3 .put-number .ensures .0 ▸ p4 .put .ensures)),
+      puts-is (middle-lines (a .bound) (a .form) (tableOf (a .words .now)))
+          (rw (← n .operator-count .ensures) (p1 .put-state .ensures .0 ▹ p2 .put-goal .ensures .0 ▹ p3 .put-number .ensures .0 ▹ p4 .put .ensures)),
       omega (arith, p1 .put-state .ensures .1, p2 .put-goal .ensures .1, p3 .put-number .ensures .1, p4 .put .ensures .next),
     )
 

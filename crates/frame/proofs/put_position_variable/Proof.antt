@@ -1,5 +1,5 @@
 use native.Mathlib.Omega.{arith}
-use Rattle.text.proofs.AppendLaws.{_▸_, appends-is}
+use Rattle.text.proofs.PutLaws.{_▹_, puts-is}
 use Rattle.frame.proofs.FrameLaws.{position-lines}
 use borrow.Author.Needs.{needs}
 use Rattle.frame.proofs.put_position_variable.Statement.{statement}
@@ -32,7 +32,7 @@ returns c =
     let p2 = p3 .before .before .before .before .before in
     let p1 = p2 .before .before .before .before .before in
     let a = p1 .before .before .before .args in (
-      appends-is (position-lines (a .v) (a .tasks)) (p1 .put-head .ensures .0 ▸ p2 .put-names .ensures .0 ▸ p3 .put .ensures),
+      puts-is (position-lines (a .v) (a .tasks)) (p1 .put-head .ensures .0 ▹ p2 .put-names .ensures .0 ▹ p3 .put .ensures),
       omega (arith, p1 .put-head .ensures .1, p2 .put-names .ensures .1, p3 .put .ensures .next),
     )
 

@@ -1,6 +1,6 @@
 use native.Mathlib.Omega.{arith}
 use Rattle.words.specs.Words.{tableOf}
-use Rattle.text.proofs.AppendLaws.{_▸_, appends-is}
+use Rattle.text.proofs.PutLaws.{_▹_, puts-is}
 use Rattle.frame.proofs.FrameLaws.{state-lines}
 use borrow.Author.Needs.{needs}
 use Rattle.frame.proofs.put_state.Statement.{statement}
@@ -34,7 +34,7 @@ returns c =
     let p1 = p2 .before .before .before .before in
     let n = p1 .before .before .before in
     let a = n .before .before .before .args in (
-      appends-is (state-lines (a .bound) (tableOf (a .words .now))) (rw (← n .variable-count .ensures) (p1 .put .ensures ▸ p2 .put-values .ensures .0 ▸ p3 .put2 .ensures)),
+      puts-is (state-lines (a .bound) (tableOf (a .words .now))) (rw (← n .variable-count .ensures) (p1 .put .ensures ▹ p2 .put-values .ensures .0 ▹ p3 .put2 .ensures)),
       omega (arith, p1 .put .ensures .next, p2 .put-values .ensures .1, p3 .put2 .ensures .next),
     )
 

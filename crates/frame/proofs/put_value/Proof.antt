@@ -4,7 +4,7 @@ use mathlib.Core.List.{[], _∷_}
 use native.Mathlib.Omega.{arith}
 use Rattle.basics.specs.Texts.{digits, line}
 use Rattle.words.specs.Words.{tableOf}
-use Rattle.text.proofs.AppendLaws.{appends-is}
+use Rattle.text.proofs.PutLaws.{puts-is}
 use Rattle.frame.proofs.FrameLaws.{start-low}
 use borrow.Author.Needs.{needs}
 use Rattle.frame.proofs.put_value.Statement.{statement}
@@ -31,7 +31,7 @@ same-length c = search needs
 returns : tie.Need-returns
 returns c =
     let p = c .before .before in
-    (appends-is (ap (λ (n : ℕ). line (digits n ∷ [])) (sym (c .before .before .before .before .before .start-value .ensures))) (p .put-line .ensures .0), omega (arith, p .put-line .ensures .1))
+    (puts-is (ap (λ (n : ℕ). line (digits n ∷ [])) (sym (c .before .before .before .before .before .start-value .ensures))) (p .put-line .ensures .0), omega (arith, p .put-line .ensures .1))
 
 pub put-value-spec : {M : Type 1} → statement M
 put-value-spec =

@@ -4,7 +4,7 @@ use native.Mathlib.Omega.{arith}
 use Rattle.rules.specs.Tables.{factCount}
 use Rattle.version3.specs.Spelling.{spellVariable}
 use Rattle.words.specs.Words.{tableOf}
-use Rattle.text.proofs.AppendLaws.{appends-is}
+use Rattle.text.proofs.PutLaws.{puts-is}
 use Rattle.frame.specs.Frames.{variable, positionNames}
 use Rattle.frame.proofs.FrameLaws.{fact-variable, top-variable, position-variable}
 use borrow.Author.Needs.{needs}
@@ -26,7 +26,7 @@ returns c =
     let a = c .before .before .before .before .before .before .before .before .args in
     let t = tableOf (a .words .now) in
     let l : a .v < factCount t = omega (arith, c .before .before .before .before .before .fact-count .ensures) in
-    (appends-is (fact-variable (a .bound) t (a .v) l) (p .put-fact-variable .ensures .0), p .put-fact-variable .ensures .1)
+    (puts-is (fact-variable (a .bound) t (a .v) l) (p .put-fact-variable .ensures .0), p .put-fact-variable .ensures .1)
 
 put-top-variable-requires : tie.Need-put-top-variable-requires
 put-top-variable-requires c κs = search needs
@@ -40,7 +40,7 @@ returns-2 c =
     let a = c .before .before .before .before .before .before .before .before .before .args in
     let t = tableOf (a .words .now) in
     let e : a .v ≡ factCount t = omega (arith, c .before .before .before .before .before .before .fact-count .ensures) in
-    (appends-is (top-variable (a .bound) t (a .v) e) (p .put-top-variable .ensures .0), p .put-top-variable .ensures .1)
+    (puts-is (top-variable (a .bound) t (a .v) e) (p .put-top-variable .ensures .0), p .put-top-variable .ensures .1)
 
 task-count-requires : tie.Need-task-count-requires
 task-count-requires c κs = search needs
@@ -58,7 +58,7 @@ returns-3 c =
     let a = c .before .before .before .before .before .before .before .before .before .before .args in
     let t = tableOf (a .words .now) in
     let l : factCount t < a .v = omega (arith, c .before .before .before .before .before .before .before .fact-count .ensures) in (
-      appends-is (position-variable (a .bound) t (a .v) l ∙ ap (λ (n : ℕ). spellVariable (variable (a .v) (positionNames n))) (sym (q .task-count .ensures)))
+      puts-is (position-variable (a .bound) t (a .v) l ∙ ap (λ (n : ℕ). spellVariable (variable (a .v) (positionNames n))) (sym (q .task-count .ensures)))
           (p .put-position-variable .ensures .0),
       p .put-position-variable .ensures .1,
     )

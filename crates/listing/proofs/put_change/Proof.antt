@@ -1,7 +1,7 @@
 use Rattle.facts.specs.Sets.{setOf}
 use borrow.Author.Needs.{needs}
 use native.Mathlib.Omega.{arith}
-use Rattle.text.proofs.AppendLaws.{_▸_, appends-is}
+use Rattle.text.proofs.PutLaws.{_▹_, puts-is}
 use Rattle.listing.proofs.LineLaws.{change-line}
 use Rattle.listing.proofs.put_change.Statement.{statement}
 use Rattle.listing.proofs.put_change.Tie as tie
@@ -33,7 +33,7 @@ returns c =
     let m = e .before .before .before .before .before in
     let f = m .before .before .before .before .before in
     let a = f .before .before .before .before .args in (
-      appends-is (change-line (setOf (a .needs)) (setOf (a .dels)) (a .k) _ _ (m .before .has .ensures) (e .before .has2 .ensures)) (f .put-field .ensures .0 ▸ m .put-before .ensures .0 ▸ e .put-after .ensures .0),
+      puts-is (change-line (setOf (a .needs)) (setOf (a .dels)) (a .k) _ _ (m .before .has .ensures) (e .before .has2 .ensures)) (f .put-field .ensures .0 ▹ m .put-before .ensures .0 ▹ e .put-after .ensures .0),
       omega (arith, f .put-field .ensures .1, m .put-before .ensures .1, e .put-after .ensures .1),
     )
 

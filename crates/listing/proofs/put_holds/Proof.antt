@@ -1,6 +1,6 @@
 use borrow.Author.Needs.{needs}
 use native.Mathlib.Omega.{arith}
-use Rattle.text.proofs.AppendLaws.{_▸_, appends-is}
+use Rattle.text.proofs.PutLaws.{_▹_, puts-is}
 use Rattle.listing.proofs.LineLaws.{holds-line}
 use Rattle.listing.proofs.put_holds.Statement.{statement}
 use Rattle.listing.proofs.put_holds.Tie as tie
@@ -24,7 +24,7 @@ returns : tie.Need-returns
 returns c =
     let q = c .before .before in
     let p = q .before .before .before .before .before in
-    (appends-is (holds-line (p .before .before .before .before .args .k)) (p .put-field .ensures .0 ▸ q .put .ensures), omega (arith, p .put-field .ensures .1, q .put .ensures .next))
+    (puts-is (holds-line (p .before .before .before .before .args .k)) (p .put-field .ensures .0 ▹ q .put .ensures), omega (arith, p .put-field .ensures .1, q .put .ensures .next))
 
 pub put-holds-spec : {M : Type 1} → statement M
 put-holds-spec =

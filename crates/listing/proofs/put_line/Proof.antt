@@ -4,7 +4,7 @@ use native.Mathlib.Omega.{arith}
 use mathlib.Core.Path.{sym, ap, _∙_}
 use borrow.Author.Tests.{not-true, not-false}
 use Prim.Native.Nat.{ℕ}
-use Rattle.text.proofs.AppendLaws.{appends-is, appends-none}
+use Rattle.text.proofs.PutLaws.{puts-is, puts-none}
 use Rattle.listing.proofs.LineLaws.{line-there, line-missing}
 use Rattle.listing.specs.declared.Says.{Says}
 use Rattle.listing.specs.Listings.{lineBytes, factLine}
@@ -17,7 +17,7 @@ has-requires c κs = search needs
 returns : tie.Need-returns
 returns c =
     let a = c .before .before .before .args in
-    (appends-is (line-missing (a .says) (setOf (a .set)) (a .k) (sym (c .before .has .ensures) ∙ not-true _ (c .if1 .taken))) (appends-none _ _), search needs)
+    (puts-is (line-missing (a .says) (setOf (a .set)) (a .k) (sym (c .before .has .ensures) ∙ not-true _ (c .if1 .taken))) (puts-none _ _), search needs)
 
 enum-told : tie.Need-enum-told
 enum-told c = search needs
@@ -43,7 +43,7 @@ returns-2 c =
     let p = c .before .before in
     let a = p .before .before .before .before .before .before .before .args in
     let e = p .before .before .enum-told .given .1 in (
-      appends-is (line-there (a .says) (setOf (a .set)) (a .k) (sym (p .before .before .before .before .before .has .ensures) ∙ not-false _ (p .before .before .before .before .if1 .left)) ∙ ap (λ (s : Says). factLine s (a .k)) e) (p .put-holds .ensures .0),
+      puts-is (line-there (a .says) (setOf (a .set)) (a .k) (sym (p .before .before .before .before .before .has .ensures) ∙ not-false _ (p .before .before .before .before .if1 .left)) ∙ ap (λ (s : Says). factLine s (a .k)) e) (p .put-holds .ensures .0),
       omega (arith, p .put-holds .ensures .1, ap lineBytes e),
     )
 
@@ -55,7 +55,7 @@ returns-3 c =
     let p = c .before .before in
     let a = p .before .before .before .before .before .before .before .before .args in
     let e = p .before .before .before .says .given .1 in (
-      appends-is (line-there (a .says) (setOf (a .set)) (a .k) (sym (p .before .before .before .before .before .before .has .ensures) ∙ not-false _ (p .before .before .before .before .before .if1 .left)) ∙ ap (λ (s : Says). factLine s (a .k)) e) (p .put-change .ensures .0),
+      puts-is (line-there (a .says) (setOf (a .set)) (a .k) (sym (p .before .before .before .before .before .before .has .ensures) ∙ not-false _ (p .before .before .before .before .before .if1 .left)) ∙ ap (λ (s : Says). factLine s (a .k)) e) (p .put-change .ensures .0),
       omega (arith, p .put-change .ensures .1, ap lineBytes e),
     )
 

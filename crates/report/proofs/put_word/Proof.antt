@@ -1,5 +1,5 @@
 use native.Mathlib.Omega.{arith}
-use Rattle.text.proofs.AppendLaws.{_▸_}
+use Rattle.text.proofs.PutLaws.{_▹_, appended}
 use borrow.Author.Needs.{needs}
 use Rattle.report.proofs.put_word.Statement.{statement}
 use Rattle.report.proofs.put_word.Tie as tie
@@ -20,7 +20,10 @@ returns : tie.Need-returns
 returns c =
     let q = c .before .before in
     let p = q .before .before .before .before in
-    (p .put .ensures ▸ q .put-number .ensures .0, omega (arith, p .put .ensures .next, q .put-number .ensures .1))
+    let s = p .before .before .before .before in (
+      appended (p .put .ensures ▹ q .put-number .ensures .0) (omega (arith, p .put .ensures .next, q .put-number .ensures .1, s .pre)),
+      omega (arith, p .put .ensures .next, q .put-number .ensures .1),
+    )
 
 pub put-word-spec : {M : Type 1} → statement M
 put-word-spec =

@@ -1,12 +1,13 @@
 use borrow.Author.Needs.{needs}
 use mathlib.Core.Path.{_≡_, subst}
-use Prim.Native.Nat.{_+_, _-_}
+use Prim.Native.Nat.{_+_, _-_, _≤_}
 use native.Mathlib.Omega.{arith}
 use Rattle.rules.specs.Problems.{variableCount}
 use Rattle.words.specs.Words.{tableOf}
 use Rattle.problem.specs.declared.Found.{Found}
 use Rattle.problem.specs.Places.{IsFound}
-use Rattle.section.proofs.ChosenLaws.{chosen-first, chosen-variable, chosen-middle, chosen-operator, chosen-last, chosen-none, begins, refused}
+use Rattle.section.proofs.ChosenLaws.{chosen-first, chosen-variable, chosen-middle, chosen-operator, chosen-last, chosen-none}
+use Rattle.section.proofs.FitLaws.{fits-chosen, none-chosen}
 use Rattle.section.proofs.put_section.Statement.{statement}
 use Rattle.section.proofs.put_section.Tie as tie
 
@@ -22,8 +23,7 @@ same-length c = search needs
 returns : tie.Need-returns
 returns c =
     let a = c .before .before .before .before .before .before .before .before .args in
-    let put = c .before .before .put-preamble .ensures in
-    begins _ (chosen-first (a .bound) (a .form) (tableOf (a .words .now)) (a .k) (c .before .before .before .before .if1 .taken)) (put .0) (omega (arith, put .1))
+    fits-chosen _ (chosen-first (a .bound) (a .form) (tableOf (a .words .now)) (a .k) (c .before .before .before .before .if1 .taken)) (c .before .before .put-preamble .ensures)
 
 sub-put-variable : tie.Need-sub-put-variable
 sub-put-variable c = search needs
@@ -37,8 +37,8 @@ same-length-2 c = search needs
 returns-2 : tie.Need-returns-2
 returns-2 c =
     let a = c .before .before .before .before .before .before .before .before .before .args in
-    let put = c .before .before .put-variable .ensures in
-    begins _ (chosen-variable (a .bound) (a .form) (tableOf (a .words .now)) (a .k) (c .before .before .before .before .before .if1 .left) (omega (arith, c .before .before .before .before .before .before .variable-count .ensures, c .before .before .before .before .if2 .taken))) (put .0) (omega (arith, put .1))
+    let l : a .k ≤ variableCount (a .bound) (tableOf (a .words .now)) = omega (arith, c .before .before .before .before .before .before .variable-count .ensures, c .before .before .before .before .if2 .taken) in
+    fits-chosen _ (chosen-variable (a .bound) (a .form) (tableOf (a .words .now)) (a .k) (c .before .before .before .before .before .if1 .left) l) (c .before .before .put-variable .ensures)
 
 add-if3 : tie.Need-add-if3
 add-if3 c = search needs
@@ -52,8 +52,8 @@ same-length-3 c = search needs
 returns-3 : tie.Need-returns-3
 returns-3 c =
     let a = c .before .before .before .before .before .before .before .before .before .before .args in
-    let put = c .before .before .put-middle .ensures in
-    begins _ (chosen-middle (a .bound) (a .form) (tableOf (a .words .now)) (a .k) (omega (arith, c .before .before .before .before .before .before .before .variable-count .ensures, c .before .before .before .before .if3 .taken))) (put .0) (omega (arith, put .1))
+    let e : a .k ≡ variableCount (a .bound) (tableOf (a .words .now)) + 1 = omega (arith, c .before .before .before .before .before .before .before .variable-count .ensures, c .before .before .before .before .if3 .taken) in
+    fits-chosen _ (chosen-middle (a .bound) (a .form) (tableOf (a .words .now)) (a .k) e) (c .before .before .put-middle .ensures)
 
 sub-find : tie.Need-sub-find
 sub-find c = search needs
@@ -72,29 +72,25 @@ put-operator-requires c κs =
     let a = c .before .before .before .before .before .before .before .before .before .before .before in
     let n = a .args .k - c .before .before .before .before .before .before .before .before .variable-count .result - 2 in
     let found = subst (λ (r : Found). IsFound (a .args .bound) (a .args .form) (tableOf (a .args .words .now)) n r) (c .before .before .i .given .1) (c .before .before .before .before .find .ensures) in
-    ((a .pre .0, a .pre .2, found .step), (found .position, a .pre .3))
+    ((a .pre .0, a .pre .2, found .step), found .position)
 
 enum-known-over : tie.Need-enum-known-over
 enum-known-over c = search needs
 
-slice-aggregate-put : tie.Need-slice-aggregate-put
-slice-aggregate-put c = search needs
-
-put-requires : tie.Need-put-requires
-put-requires c κs = search needs
+put-last-requires : tie.Need-put-last-requires
+put-last-requires c κs = search needs
 
 same-length-4 : tie.Need-same-length-4
 same-length-4 c = search needs
 
 returns-4 : tie.Need-returns-4
 returns-4 c =
-    let a = c .before .before .before .before .before .before .before .before .before .before .before .before .before .before .before .before .args in
+    let a = c .before .before .before .before .before .before .before .before .before .before .before .before .before .before .before .args in
     let t = tableOf (a .words .now) in
-    let n = a .k - c .before .before .before .before .before .before .before .before .before .before .before .before .before .variable-count .result - 2 in
-    let found = subst (λ (r : Found). IsFound (a .bound) (a .form) t n r) (c .before .before .before .before .before .before .before .over .given .1) (c .before .before .before .before .before .before .before .before .before .find .ensures) in
-    let e : a .k ≡ variableCount (a .bound) t + 2 + n = omega (arith, c .before .before .before .before .before .before .before .before .before .before .before .before .before .variable-count .ensures, c .before .before .before .before .before .before .before .before .before .before .before .if2 .left, c .before .before .before .before .before .before .before .before .before .before .if3 .left) in
-    let put = c .before .before .put .ensures in
-    begins _ (chosen-last (a .bound) (a .form) t (a .k) n e (omega (arith, found, c .before .before .before .before .before .if4 .taken))) put (omega (arith, put .next))
+    let n = a .k - c .before .before .before .before .before .before .before .before .before .before .before .before .variable-count .result - 2 in
+    let found = subst (λ (r : Found). IsFound (a .bound) (a .form) t n r) (c .before .before .before .before .before .before .over .given .1) (c .before .before .before .before .before .before .before .before .find .ensures) in
+    let e : a .k ≡ variableCount (a .bound) t + 2 + n = omega (arith, c .before .before .before .before .before .before .before .before .before .before .before .before .variable-count .ensures, c .before .before .before .before .before .before .before .before .before .before .if2 .left, c .before .before .before .before .before .before .before .before .before .if3 .left) in
+    fits-chosen _ (chosen-last (a .bound) (a .form) t (a .k) n e (omega (arith, found, c .before .before .before .before .if4 .taken))) (c .before .before .put-last .ensures)
 
 same-length-5 : tie.Need-same-length-5
 same-length-5 c = search needs
@@ -106,8 +102,7 @@ returns-5 c =
     let n = a .k - c .before .before .before .before .before .before .before .before .before .before .before .variable-count .result - 2 in
     let found = subst (λ (r : Found). IsFound (a .bound) (a .form) t n r) (c .before .before .before .before .before .i .given .1) (c .before .before .before .before .before .before .before .find .ensures) in
     let e : a .k ≡ variableCount (a .bound) t + 2 + n = omega (arith, c .before .before .before .before .before .before .before .before .before .before .before .variable-count .ensures, c .before .before .before .before .before .before .before .before .before .if2 .left, c .before .before .before .before .before .before .before .before .if3 .left) in
-    let put = c .before .before .put-operator .ensures in
-    begins _ (chosen-operator (a .bound) (a .form) t (a .k) n e _ _ found) (put .0) (put .1)
+    fits-chosen _ (chosen-operator (a .bound) (a .form) t (a .k) n e _ _ found) (c .before .before .put-operator .ensures)
 
 returns-6 : tie.Need-returns-6
 returns-6 c =
@@ -116,7 +111,7 @@ returns-6 c =
     let n = a .k - c .before .before .before .before .before .before .before .before .variable-count .result - 2 in
     let found = subst (λ (r : Found). IsFound (a .bound) (a .form) t n r) (c .before .before .over .given .1) (c .before .before .before .before .find .ensures) in
     let e : a .k ≡ variableCount (a .bound) t + 2 + n = omega (arith, c .before .before .before .before .before .before .before .before .variable-count .ensures, c .before .before .before .before .before .before .if2 .left, c .before .before .before .before .before .if3 .left) in
-    refused (a .space .now) _ (chosen-none (a .bound) (a .form) t (a .k) n e _ found (c .if4 .left))
+    none-chosen (a .part .now) _ (chosen-none (a .bound) (a .form) t (a .k) n e _ found (c .if4 .left))
 
 pub put-section-spec : {M : Type 1} → statement M
 put-section-spec =
@@ -140,8 +135,7 @@ put-section-spec =
     enum-known-i
     put-operator-requires
     enum-known-over
-    slice-aggregate-put
-    put-requires
+    put-last-requires
     same-length-4
     returns-4
     same-length-5

@@ -5,7 +5,7 @@ use native.Mathlib.Omega.{arith}
 use Rattle.basics.specs.Lists.{upto, sumTo}
 use Rattle.laws.proofs.ListLaws.{sum-more}
 use Rattle.text.specs.Appends.{Appends}
-use Rattle.text.proofs.AppendLaws.{appends-none}
+use Rattle.text.proofs.AppendLaws.{_▸_, appends-is, appends-none}
 use Rattle.template.specs.Templates.{startOf, turn}
 use Rattle.template.proofs.TemplateLaws.{segment-ends, last-begins, turn-more, turn-last}
 use borrow.Author.Needs.{needs}
@@ -79,7 +79,7 @@ loop-again c =
     let q = c .before .before .before .before .before .before .before .put-part .ensures in
     let d = c .before .before .put-figure .ensures in
     let t = sum-more (λ k. getD (a .lens .now) k 0) (l .j) in
-    (omega arith, l .inv .1, omega (arith, t, l .inv .2), omega (arith, t, l .inv .3, q .1, d .1), turn-more (a .t .now) (a .lens .now) (a .offs .now) (a .p) (l .j) (l .from) (l .inv .2) (l .inv .4) (q .0) (d .0))
+    (omega arith, l .inv .1, omega (arith, t, l .inv .2), omega (arith, t, l .inv .3, q .1, d .1), appends-is (turn-more (a .t .now) (a .lens .now) (a .offs .now) (a .p) (l .j) (l .from) (l .inv .2)) (l .inv .4 ▸ (q .0 ▸ d .0)))
 
 sub-put-part : tie.Need-sub-put-part Inv-loop μ-loop
 sub-put-part c =
@@ -108,7 +108,7 @@ returns c =
     let k : l .j ≡ a .pen .count = omega arith in
     let e = last-begins (s .pre .0 .0) (l .j) (l .from) k (l .inv .2) in
     let q = c .before .before .put-part2 .ensures in
-    (turn-last (a .t .now) (a .lens .now) (a .offs .now) (a .pen) (a .p) (l .j) (l .from) k e (l .inv .4) (q .0), omega (arith, k, e, s .pre .0 .0 .reach, l .inv .2, l .inv .3, q .1))
+    (appends-is (turn-last (a .t .now) (a .lens .now) (a .offs .now) (a .p) (l .j) (l .from) (a .pen) k e) (l .inv .4 ▸ q .0), omega (arith, k, e, s .pre .0 .0 .reach, l .inv .2, l .inv .3, q .1))
 
 pub put-rendered-spec : {M : Type 1} → statement M
 put-rendered-spec =

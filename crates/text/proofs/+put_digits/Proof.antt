@@ -1,13 +1,14 @@
-use Prim.Native.Nat.{ℕ, _<_}
-use native.Mathlib.Omega.{arith}
 use borrow.Author.Needs.{needs}
+use Prim.Native.Nat.{ℕ, _<_}
 use borrow.Fn.Kinds.{In}
 use borrow.Fn.PlainCycle.{Measures, is, falls, and}
+use native.Mathlib.Omega.{arith}
 use Rattle.laws.proofs.TextLaws.{digits-one, digits-more, length-one, length-more}
-use Rattle.text.proofs.AppendLaws.{_▸_, appends-is, appends-one}
+use Rattle.text.proofs.PutLaws.{_▹_, puts-is}
 use Rattle.text.proofs.put_digits.Reads as put-digits
 use Rattle.text.proofs.put_digits.Kinds as put-digits-kinds
 use Rattle.text.proofs.+put_digits.Lts-put_digits as put-digits-lts
+use Rattle.text.proofs.put_byte.Reads as put-byte-reads
 use Rattle.text.proofs.+put_digits.{statement}
 use Rattle.text.proofs.+put_digits.Tie.{close}
 
@@ -23,86 +24,81 @@ put-digits-below t =
     and 1 put-digits-kinds.ps (falls 1 put-digits-kinds.ps _<_ μ-put-digits t) put-digits.Pre
 
 put-digits-cast-last : (t : ℕ) → put-digits-lts.Need-cast-last (
+  put-byte-reads.Asked,
+  put-byte-reads.Learnt,
   put-digits-below t,
   put-digits.Post,
 ) (put-digits-at t) put-digits.Post
 put-digits-cast-last t c = omega arith
 
-put-digits-add-last :
-    (t : ℕ) →
-    put-digits-lts.Need-add-last
-    (put-digits-below t, put-digits.Post)
-    (put-digits-at t)
-    put-digits.Post
+put-digits-add-last : (t : ℕ) → put-digits-lts.Need-add-last (
+  put-byte-reads.Asked,
+  put-byte-reads.Learnt,
+  put-digits-below t,
+  put-digits.Post,
+) (put-digits-at t) put-digits.Post
 put-digits-add-last t c = omega arith
 
-put-digits-slice-write-out : (t : ℕ) → put-digits-lts.Need-slice-write-out (
+put-digits-put-byte-requires : (t : ℕ) → put-digits-lts.Need-put-byte-requires (
+  put-byte-reads.Asked,
+  put-byte-reads.Learnt,
   put-digits-below t,
   put-digits.Post,
 ) (put-digits-at t) put-digits.Post
-put-digits-slice-write-out t c = omega (arith, length-one _ (c .if1 .taken))
-
-put-digits-add-result : (t : ℕ) → put-digits-lts.Need-add-result (
-  put-digits-below t,
-  put-digits.Post,
-) (put-digits-at t) put-digits.Post
-put-digits-add-result t c = omega (arith, length-one _ (c .if1 .taken))
+put-digits-put-byte-requires t c κs = omega (arith, length-one _ (c .before .if1 .taken))
 
 put-digits-same-length : (t : ℕ) → put-digits-lts.Need-same-length (
+  put-byte-reads.Asked,
+  put-byte-reads.Learnt,
   put-digits-below t,
   put-digits.Post,
 ) (put-digits-at t) put-digits.Post
 put-digits-same-length t c = search needs
 
-put-digits-returns :
-    (t : ℕ) →
-    put-digits-lts.Need-returns
-    (put-digits-below t, put-digits.Post)
-    (put-digits-at t)
-    put-digits.Post
-put-digits-returns t c =
-    appends-is (digits-one _ (c .if1 .taken))
-    (appends-one _ _ _ (omega (arith, length-one _ (c .if1 .taken))))
+put-digits-returns : (t : ℕ) → put-digits-lts.Need-returns (
+  put-byte-reads.Asked,
+  put-byte-reads.Learnt,
+  put-digits-below t,
+  put-digits.Post,
+) (put-digits-at t) put-digits.Post
+put-digits-returns t c = puts-is (digits-one _ (c .before .before .before .before .if1 .taken)) (c .before .before .put-byte .ensures)
 
 put-digits-put-digits-requires : (t : ℕ) → put-digits-lts.Need-put-digits-requires (
+  put-byte-reads.Asked,
+  put-byte-reads.Learnt,
   put-digits-below t,
   put-digits.Post,
 ) (put-digits-at t) put-digits.Post
 put-digits-put-digits-requires t c κs = (omega arith, omega (arith, length-more _ (c .before .if1 .left)))
 
-put-digits-slice-write-out-2 : (t : ℕ) → put-digits-lts.Need-slice-write-out-2 (
+put-digits-put-byte-requires-2 : (t : ℕ) → put-digits-lts.Need-put-byte-requires-2 (
+  put-byte-reads.Asked,
+  put-byte-reads.Learnt,
   put-digits-below t,
   put-digits.Post,
 ) (put-digits-at t) put-digits.Post
-put-digits-slice-write-out-2 t c =
-    let w = c .before .before .put-digits .ensures in
-    omega (arith, w .next, w .size, length-more _ (c .before .before .before .before .if1 .left))
-
-put-digits-add-result-2 : (t : ℕ) → put-digits-lts.Need-add-result-2 (
-  put-digits-below t,
-  put-digits.Post,
-) (put-digits-at t) put-digits.Post
-put-digits-add-result-2 t c =
-    let w = c .before .before .put-digits .ensures in
-    omega (arith, w .next, length-more _ (c .before .before .before .before .if1 .left))
+put-digits-put-byte-requires-2 t c κs = omega (arith, c .before .before .before .put-digits .ensures .next, length-more _ (c .before .before .before .before .before .if1 .left))
 
 put-digits-same-length-2 : (t : ℕ) → put-digits-lts.Need-same-length-2 (
+  put-byte-reads.Asked,
+  put-byte-reads.Learnt,
   put-digits-below t,
   put-digits.Post,
 ) (put-digits-at t) put-digits.Post
 put-digits-same-length-2 t c = search needs
 
 put-digits-returns-2 : (t : ℕ) → put-digits-lts.Need-returns-2 (
+  put-byte-reads.Asked,
+  put-byte-reads.Learnt,
   put-digits-below t,
   put-digits.Post,
 ) (put-digits-at t) put-digits.Post
-put-digits-returns-2 t c =
-    let w = c .before .before .put-digits .ensures in
-    let h = c .before .before .before .before .if1 .left in
-    appends-is (digits-more _ h) (w ▸ appends-one _ _ _ (omega (arith, w .next, w .size, length-more _ h)))
+put-digits-returns-2 t c = puts-is (digits-more _ (c .before .before .before .before .before .before .before .before .if1 .left)) (c .before .before .before .before .before .before .put-digits .ensures ▹ c .before .before .put-byte2 .ensures)
 
 pub +put-digits-spec : {M : Type 1} → statement M
 +put-digits-spec = close μ-put-digits λ t. put-digits-lts.spec (
+  put-byte-reads.Asked,
+  put-byte-reads.Learnt,
   put-digits-below t,
   put-digits.Post,
 )
@@ -110,12 +106,10 @@ pub +put-digits-spec : {M : Type 1} → statement M
     put-digits.Post
     (put-digits-cast-last t)
     (put-digits-add-last t)
-    (put-digits-slice-write-out t)
-    (put-digits-add-result t)
+    (put-digits-put-byte-requires t)
     (put-digits-same-length t)
     (put-digits-returns t)
     (put-digits-put-digits-requires t)
-    (put-digits-slice-write-out-2 t)
-    (put-digits-add-result-2 t)
+    (put-digits-put-byte-requires-2 t)
     (put-digits-same-length-2 t)
     (put-digits-returns-2 t)
