@@ -1,3 +1,4 @@
+use Rattle.text.proofs.PutLaws.{appended}
 use Prim.Native.Nat.{ℕ, _+_}
 use mathlib.Core.Path.{ap, _∙_}
 use Rattle.basics.specs.Lists.{upto}
@@ -51,8 +52,9 @@ same-length-3 c = search needs
 
 returns-3 : tie.Need-returns-3
 returns-3 c =
-    let w = c .before .before .put .ensures in
+    let put = c .before .before .put .ensures in
     let s = c .before .before .before .before .before .before .before .before .before .before .before in
+    let w = appended put (omega (arith, put .next, s .pre .1)) in
     let t = tableOf (s .args .words .now) in
     let n = c .before .before .before .before .before .before .step-count .ensures .0 in (
       ap (λ (k : ℕ). upto (problemPiece (s .args .bound) (s .args .form) t) (k + 2)) n
