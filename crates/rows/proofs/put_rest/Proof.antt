@@ -1,10 +1,12 @@
 use mathlib.Core.Path.{_≡_, refl, ap, _∙_}
+use mathlib.Core.List.{List}
 use Prim.Native.Nat.{ℕ, _+_, _-_, _≤_, _<_}
 use native.Mathlib.Omega.{arith}
 use lib.ListN.{length, getD, take, drop, length-set, length-drop}
 use lib.Seq.{take-set-le}
-use Rattle.rules.specs.Tables.{method}
-use Rattle.words.specs.Words.{tableOf}
+use Rattle.rules.specs.Limits.{mostTasks}
+use Rattle.rules.specs.Tables.{methodCount, method}
+use Rattle.words.specs.Words.{tableOf, Held}
 use Rattle.words.proofs.ViewLaws.{subtask-low, width-small}
 use Rattle.rows.specs.Stacks.{stackOf}
 use Rattle.rows.proofs.StackLaws.{push-none, push-more}
@@ -42,13 +44,14 @@ sub-i c = search needs
 subtask-requires : tie.Need-subtask-requires Inv-loop μ-loop
 subtask-requires c κs = search needs
 
+-- a subtask of the method, whichever it is, fits a cell
+task-low : (w : List ℕ) (h : Held w) (k : ℕ) (l : k < methodCount (tableOf w)) {i r : ℕ} → r ≡ getD (method (tableOf w) k .subs) i 0 → i < length (method (tableOf w) k .subs) → r < mostTasks
+task-low w h k l {i} e j = omega (arith, e, subtask-low w h k l i j, h .valid .head .tasks)
+
 cast-cells : tie.Need-cast-cells Inv-loop μ-loop
 cast-cells c =
-    let a = c .before .before .before .before .before .before .args in
-    let v = c .before .before .before .before .before .before .pre .0 .valid .head in
-    let n = c .before .before .before .width-of in
-    let low = subtask-low (a .words .now) (c .before .before .before .before .before .before .pre .0) (a .k) (c .before .before .before .before .before .before .pre .1) (n .result - (c .before .before .loop .h + 1)) (omega (arith, n .ensures)) in
-    omega (arith, c .subtask .ensures, low, v .tasks, v .actions)
+    let s = c .before .before .before .before .before .before in
+    omega (arith, task-low (s .args .words .now) (s .pre .0) (s .args .k) (s .pre .1) (c .subtask .ensures) (omega (arith, c .before .before .before .width-of .ensures)))
 
 add-cells : tie.Need-add-cells Inv-loop μ-loop
 add-cells c =
