@@ -5,6 +5,7 @@ pub mod Acceptance
 pub mod OneList
 pub mod SolutionLaws
 pub mod PlanTexts
+pub mod LineShapes
 pub mod StepBytes
 pub mod Demand3
 pub mod Expansion

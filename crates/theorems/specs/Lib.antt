@@ -4,3 +4,4 @@ pub mod Solutions
 pub mod Demand
 pub mod Counts
 pub mod StepLists
+pub mod Shapes
