@@ -9,6 +9,7 @@ pub mod LineShapes
 pub mod StepBytes
 pub mod Demand3
 pub mod Expansion
+pub mod RefusalNumbers
 pub mod Examples
 pub mod Listing
 pub mod Places

@@ -5,3 +5,4 @@ pub mod Demand
 pub mod Counts
 pub mod StepLists
 pub mod Shapes
+pub mod Numbers
