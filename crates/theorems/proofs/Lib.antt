@@ -10,6 +10,7 @@ pub mod StepBytes
 pub mod Demand3
 pub mod Expansion
 pub mod RefusalNumbers
+pub mod Completion
 pub mod Examples
 pub mod Listing
 pub mod Places

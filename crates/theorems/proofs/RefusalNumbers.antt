@@ -10,7 +10,7 @@ use lib.ListN.{length, getD, drop}
 use lib.Seq.{slice}
 use lib.Dec.{T, eqb, leb, ltb, ltb→lt, nleb→lt}
 use Rattle.basics.specs.Readings.{Reading, got, bad, then, many}
-use Rattle.basics.specs.Answers.{Answer, answer, refusal, numberOf, check, after}
+use Rattle.basics.specs.Answers.{Answer, answer, refusal, numberOf, placeOf, check, after}
 use Rattle.rules.specs.Limits.{mostFacts, mostActions, mostTasks, mostMethods, mostSubtasks, mostCost, mostBound, mostTableBytes, mostPlanBytes}
 use Rattle.rules.specs.Reasons.{badBound, badForm, tableTooLong, planTooLong, tableEnds, badNumber, outOfRange, notThere, bytesAfterTable, noSuchSection, lineShape, notEmitted, notApplicable, stackNotEmpty, goalMissing, noRoom}
 use Rattle.rules.specs.Numbers.{groupsBefore, groupsValue, sound, numberAt, inRange, ranged}
@@ -22,9 +22,9 @@ use Rattle.rules.specs.Plans.{Line, note, oper, other, linesOf, opersOf}
 use Rattle.rules.specs.Checks.{Place, skip, apply, checkFrom, checkLines, stepBytes}
 use Rattle.rules.specs.Refusals.{readOf, tableRead, opened, planNumber, roomOf, roomFor, countSections, chosen, oneSection, wholeProblem, checkPlan, expandPlan, findLeast}
 use Rattle.rules.specs.Sections.{sectionsOf}
-use Rattle.theorems.specs.Numbers.{oneOf, leastNumbers, sectionsNumbers, sectionNumbers, checkNumbers, expandNumbers, Listed, Numbered, NoText, ShortSection, ShortSteps}
+use Rattle.theorems.specs.Numbers.{oneOf, leastNumbers, sectionsNumbers, sectionNumbers, checkNumbers, expandNumbers, Listed, Numbered, Refusal, NoText, ShortSection, ShortSteps}
 use Rattle.laws.proofs.TestLaws.{and-l, and-r}
-use Rattle.laws.proofs.AnswerLaws.{check-passed}
+use Rattle.laws.proofs.AnswerLaws.{refused, check-passed}
 use Rattle.laws.proofs.RefusalLaws.{plan-long, plan-fits}
 use Rattle.theorems.proofs.Demand3.{opened-given}
 
@@ -271,6 +271,16 @@ module _ (row s : List ℕ) (lines : ℕ) (Short : ℕ → Type 0) where
       go : (a : Answer A) → Refuses Allowed a → numberOf a ≡ 0 → (x : A) × (a ≡ answer x)
       go (answer x) h e = (x, refl)
       go (refusal number place) h e = absurd (never (oneOf row 0) (subst (λ (k : ℕ). T (oneOf row k)) e (h .listed)) n)
+
+-- So are the number and the place that are handed back.
+pub handed : {A : Type 0} {row : List ℕ} {size lines : ℕ} {Short : ℕ → Type 0} (a : Answer A) → Numbered row size lines Short a
+    → Refusal row size lines Short (numberOf a) (placeOf a)
+handed (answer x) q = record { result = λ _. refl; refused = λ n. absurd (n refl) }
+handed (refusal number place) q =
+    record {
+      result = λ e. let z = q .zero .0 e in refused number place (z .1);
+      refused = λ _. q .refused number place refl;
+    }
 
 -- Entry by entry.
 pub count-numbers : (b f : ℕ) (s : List ℕ) → Numbered sectionsNumbers (length s) 0 NoText (countSections b f s)

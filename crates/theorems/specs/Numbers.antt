@@ -62,6 +62,11 @@ pub record Numbered {A : Type 0} (row : List ℕ) (size lines : ℕ) (Short : �
   pub refused : (number place : ℕ) → a ≡ refusal number place → Listed row size lines Short number place
   pub zero : (numberOf a ≡ 0) ↔ ((x : A) × (a ≡ answer x))
 
+-- The number and the place that are handed back of an answer: 0 and 0 of a result, and otherwise such a refusal's.
+pub record Refusal (row : List ℕ) (size lines : ℕ) (Short : ℕ → Type 0) (number place : ℕ) : Type 0 where
+  pub result : number ≡ 0 → place ≡ 0
+  pub refused : (number ≡ 0 → ⊥) → Listed row size lines Short number place
+
 -- No text is written.
 abbrev pub NoText : ℕ → Type 0
 NoText n = ⊥
