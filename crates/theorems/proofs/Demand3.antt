@@ -124,14 +124,13 @@ module _ (b f : ℕ) (t : Table) (some : 1 ≤ b) (ls : List Line) (c o k : ℕ)
       }
 
 module _ {b f : ℕ} {s : List ℕ} {t : Table} (g : Given b f s t) where
-  -- What is in range is opened, and comes to the check of the plan's lines.
-  opens : (plan : List ℕ) → length plan ≤ mostPlanBytes → opened (planNumber plan) b f s ≡ answer t
-  opens plan l =
-      opened-is (planNumber plan) b f s (g .low) (g .high) (g .form) ∙ table-is (planNumber plan) s (g .size) (plan-fits plan l) ∙ g .reads
+  -- What is in range is opened, where the entry's own check passes, and comes to the check of the plan's lines.
+  pub opens : (late : ℕ) → late ≡ 0 → opened late b f s ≡ answer t
+  opens late z = opened-is late b f s (g .low) (g .high) (g .form) ∙ table-is late s (g .size) z ∙ g .reads
 
   checks : (plan : List ℕ) → length plan ≤ mostPlanBytes → checkPlan b f s plan ≡ checkLines b f t (linesOf plan)
   unfolding checkPlan
-  checks plan l = ap (λ (a : Answer Table). after a (λ t. checkLines b f t (linesOf plan))) (opens plan l)
+  checks plan l = ap (λ (a : Answer Table). after a (λ t. checkLines b f t (linesOf plan))) (opens (planNumber plan) (plan-fits plan l))
 
   table-valid : Valid t
   table-valid = read-valid s t (g .reads)
@@ -190,7 +189,7 @@ module _ {b f : ℕ} {s : List ℕ} {t : Table} (g : Given b f s t) where
     pub expansion-is : (size : ℕ) → expandPlan b f s plan size ≡ roomFor size 0 (stepBytes (expandAll f t (opersOf (linesOf plan))))
     unfolding expandPlan
     expansion-is size =
-        ap (λ (a : Answer Table). after a (λ t. stepsFor b f t plan size)) (opens plan l)
+        ap (λ (a : Answer Table). after a (λ t. stepsFor b f t plan size)) (opens (planNumber plan) (plan-fits plan l))
         ∙ ap (λ (a : Answer Tally). after a (λ _. roomFor size 0 (stepBytes (expandAll f t (opersOf (linesOf plan)))))) (sym (checks plan l) ∙ e)
 
     pub expansion : (size : ℕ) → 2 * k ≤ size → expandPlan b f s plan size ≡ answer (stepBytes (expandAll f t (opersOf (linesOf plan))))

@@ -22,7 +22,7 @@ use Rattle.rules.specs.Plans.{Line, note, oper, other, linesOf, opersOf}
 use Rattle.rules.specs.Checks.{Place, skip, apply, checkFrom, checkLines, stepBytes}
 use Rattle.rules.specs.Refusals.{readOf, tableRead, opened, planNumber, roomOf, roomFor, countSections, chosen, oneSection, wholeProblem, checkPlan, expandPlan, findLeast}
 use Rattle.rules.specs.Sections.{sectionsOf}
-use Rattle.theorems.specs.Numbers.{oneOf, leastNumbers, sectionsNumbers, sectionNumbers, checkNumbers, expandNumbers, Listed, Numbered, Refusal, NoText, ShortSection, ShortSteps}
+use Rattle.theorems.specs.Numbers.{oneOf, leastNumbers, sectionsNumbers, sectionNumbers, checkNumbers, expandNumbers, Listed, Tells, Handed, NoText, ShortSection, ShortSteps}
 use Rattle.laws.proofs.TestLaws.{and-l, and-r}
 use Rattle.laws.proofs.AnswerLaws.{refused, check-passed}
 use Rattle.laws.proofs.RefusalLaws.{plan-long, plan-fits}
@@ -261,7 +261,7 @@ module _ (row s : List ℕ) (lines : ℕ) (Short : ℕ → Type 0) where
       ]
 
   -- What refuses so is numbered so, where 0 is not in the row.
-  numbered : {A : Type 0} → T (not (oneOf row 0)) → (a : Answer A) → Refuses Allowed a → Numbered row (length s) lines Short a
+  numbered : {A : Type 0} → T (not (oneOf row 0)) → (a : Answer A) → Refuses Allowed a → Tells row (length s) lines Short a
   numbered {A} n a h =
       record {
         refused = λ number place e. subst (Refuses Allowed) e h;
@@ -273,8 +273,8 @@ module _ (row s : List ℕ) (lines : ℕ) (Short : ℕ → Type 0) where
       go (refusal number place) h e = absurd (never (oneOf row 0) (subst (λ (k : ℕ). T (oneOf row k)) e (h .listed)) n)
 
 -- So are the number and the place that are handed back.
-pub handed : {A : Type 0} {row : List ℕ} {size lines : ℕ} {Short : ℕ → Type 0} (a : Answer A) → Numbered row size lines Short a
-    → Refusal row size lines Short (numberOf a) (placeOf a)
+pub handed : {A : Type 0} {row : List ℕ} {size lines : ℕ} {Short : ℕ → Type 0} (a : Answer A) → Tells row size lines Short a
+    → Handed row size lines Short (numberOf a) (placeOf a)
 handed (answer x) q = record { result = λ _. refl; refused = λ n. absurd (n refl) }
 handed (refusal number place) q =
     record {
@@ -283,26 +283,26 @@ handed (refusal number place) q =
     }
 
 -- Entry by entry.
-pub count-numbers : (b f : ℕ) (s : List ℕ) → Numbered sectionsNumbers (length s) 0 NoText (countSections b f s)
+pub count-numbers : (b f : ℕ) (s : List ℕ) → Tells sectionsNumbers (length s) 0 NoText (countSections b f s)
 unfolding countSections
 count-numbers b f s =
     numbered sectionsNumbers s 0 NoText tt (countSections b f s)
     (after-refuses _ (opened 0 b f s) _ (of-opening sectionsNumbers s 0 NoText tt 0 (λ n. absurd (n refl)) b f) (λ t e. tt))
 
-pub whole-numbers : (b f : ℕ) (s : List ℕ) → Numbered sectionsNumbers (length s) 0 NoText (wholeProblem b f s)
+pub whole-numbers : (b f : ℕ) (s : List ℕ) → Tells sectionsNumbers (length s) 0 NoText (wholeProblem b f s)
 unfolding wholeProblem
 whole-numbers b f s =
     numbered sectionsNumbers s 0 NoText tt (wholeProblem b f s)
     (after-refuses _ (opened 0 b f s) _ (of-opening sectionsNumbers s 0 NoText tt 0 (λ n. absurd (n refl)) b f) (λ t e. tt))
 
-pub least-numbers : (s : List ℕ) → Numbered leastNumbers (length s) 0 NoText (findLeast s)
+pub least-numbers : (s : List ℕ) → Tells leastNumbers (length s) 0 NoText (findLeast s)
 unfolding findLeast
 least-numbers s =
     numbered leastNumbers s 0 NoText tt (findLeast s)
     (after-refuses _ (tableRead 0 s) _ (table-refuses _ 0 (λ n. absurd (n refl)) s (of-table leastNumbers s 0 NoText tt)) (λ t e. tt))
 
 pub section-numbers : (b f : ℕ) (s : List ℕ) (k all at : ℕ)
-    → Numbered sectionNumbers (length s) 0 (ShortSection b f s k all at) (oneSection b f s k all at)
+    → Tells sectionNumbers (length s) 0 (ShortSection b f s k all at) (oneSection b f s k all at)
 unfolding oneSection
 section-numbers b f s k all at =
     numbered sectionNumbers s 0 (ShortSection b f s k all at) tt (oneSection b f s k all at)
@@ -324,7 +324,7 @@ section-numbers b f s k all at =
       };
     }))))
 
-pub check-numbers : (b f : ℕ) (s plan : List ℕ) → Numbered checkNumbers (length s) (length (linesOf plan)) NoText (checkPlan b f s plan)
+pub check-numbers : (b f : ℕ) (s plan : List ℕ) → Tells checkNumbers (length s) (length (linesOf plan)) NoText (checkPlan b f s plan)
 unfolding checkPlan
 check-numbers b f s plan =
     let n = length (linesOf plan) in
@@ -334,7 +334,7 @@ check-numbers b f s plan =
     (λ t e. lines-refuse _ n (of-lines checkNumbers s n NoText tt) b f t (linesOf plan) refl))
 
 pub expand-numbers : (b f : ℕ) (s plan : List ℕ) (all : ℕ)
-    → Numbered expandNumbers (length s) (length (linesOf plan)) (ShortSteps b f s plan all) (expandPlan b f s plan all)
+    → Tells expandNumbers (length s) (length (linesOf plan)) (ShortSteps b f s plan all) (expandPlan b f s plan all)
 unfolding expandPlan
 expand-numbers b f s plan all =
     let n = length (linesOf plan) in

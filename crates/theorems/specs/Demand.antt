@@ -21,6 +21,11 @@ pub record Given (b f : ℕ) (s : List ℕ) (t : Table) : Type 0 where
   pub size : length s ≤ mostTableBytes
   pub reads : readOf (decode s) ≡ answer t
 
+-- The bytes s are the table t, for an entry that takes no bound.
+pub record TableOf (s : List ℕ) (t : Table) : Type 0 where
+  pub size : length s ≤ mostTableBytes
+  pub reads : readOf (decode s) ≡ answer t
+
 -- All lines are in shape, their operators, each at its true height, expand to a complete run, and the numbers are those of its steps.
 pub record Accepted (b f : ℕ) (t : Table) (ls : List Line) (c o k : ℕ) : Type 0 where
   pub shape : T (shaped ls)

@@ -58,18 +58,25 @@ pub record Listed (row : List ℕ) (size lines : ℕ) (Short : ℕ → Type 0) (
   pub placed : PlaceOf size lines Short number place
 
 -- Every refusal is so, and the number is 0 exactly with a result.
-pub record Numbered {A : Type 0} (row : List ℕ) (size lines : ℕ) (Short : ℕ → Type 0) (a : Answer A) : Type 0 where
+pub record Tells {A : Type 0} (row : List ℕ) (size lines : ℕ) (Short : ℕ → Type 0) (a : Answer A) : Type 0 where
   pub refused : (number place : ℕ) → a ≡ refusal number place → Listed row size lines Short number place
   pub zero : (numberOf a ≡ 0) ↔ ((x : A) × (a ≡ answer x))
 
 -- The number and the place that are handed back of an answer: 0 and 0 of a result, and otherwise such a refusal's.
-pub record Refusal (row : List ℕ) (size lines : ℕ) (Short : ℕ → Type 0) (number place : ℕ) : Type 0 where
+pub record Handed (row : List ℕ) (size lines : ℕ) (Short : ℕ → Type 0) (number place : ℕ) : Type 0 where
   pub result : number ≡ 0 → place ≡ 0
   pub refused : (number ≡ 0 → ⊥) → Listed row size lines Short number place
 
 -- No text is written.
 abbrev pub NoText : ℕ → Type 0
 NoText n = ⊥
+
+-- The problem has a section k, and there is room for it from the place `at` on of `all` bytes.
+pub record RoomForSection (b f : ℕ) (s : List ℕ) (k all at : ℕ) : Type 0 where
+  pub table : Table
+  pub given : Given b f s table
+  pub there : k < length (sectionsOf b f table)
+  pub room : at + length (getD (sectionsOf b f table) k []) ≤ all
 
 -- n is the length of section k, and there is less room for it than that, from the place `at` on of `all` bytes.
 pub record ShortSection (b f : ℕ) (s : List ℕ) (k all at n : ℕ) : Type 0 where
