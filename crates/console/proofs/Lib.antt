@@ -1,2 +1,4 @@
 mod LengthLaws
 pub mod Outcomes
+pub mod Preconditions
+pub mod Calls

@@ -1,5 +1,5 @@
 -- Demand 3, from bytes: which plans are accepted, the one operator list of a run, what an accepted plan solves, what it expands to.
-use Prim.Native.Nat.{ℕ, _*_, _≤_, _<_}
+use Prim.Native.Nat.{ℕ, _*_, _≤_}
 use mathlib.Core.Path.{_≡_, refl, sym, ap, _∙_}
 use mathlib.Core.Logic.{_↔_}
 use mathlib.Core.Bool.{_&&_}
@@ -21,6 +21,7 @@ use Rattle.laws.specs.Valid.{Valid}
 use Rattle.laws.proofs.AnswerLaws.{check-passed, after-passed}
 use Rattle.laws.proofs.RefusalLaws.{table-is, read-valid, opened-is, plan-fits, plan-small, room-fits}
 use Rattle.theorems.specs.Runs.{Run, CompleteRun, TrueHeights}
+use Rattle.theorems.specs.Shapes.{stepNumber}
 use Rattle.theorems.specs.Solutions.{Solution, actionsOf, summed}
 use Rattle.theorems.specs.Demand.{Given, Accepted, ListOf}
 use Rattle.theorems.specs.StepLists.{stepsOf, Numbered, AllBytes}
@@ -31,7 +32,7 @@ use Rattle.theorems.proofs.RunLaws.{run-back}
 use Rattle.theorems.proofs.Acceptance.{sound, complete}
 use Rattle.theorems.proofs.OneList.{operators, unique, exists}
 use Rattle.theorems.proofs.SolutionLaws.{solution, costs}
-use Rattle.theorems.proofs.PlanTexts.{Small, numberOf, lines-of}
+use Rattle.theorems.proofs.PlanTexts.{AllSmall, lines-of}
 use Rattle.theorems.proofs.StepBytes.{bytes-small, read-back}
 
 -- A list of operators, as the lines of a plan.
@@ -44,18 +45,20 @@ opers-shaped [] = tt
 opers-shaped (o ∷ os) = opers-shaped os
 
 -- The operators of a run have numbers of at most three digits.
-known-small : (t : Table) → Valid t → (x : Step) → Known t x → ThreeDigits (numberOf x)
+known-small : (t : Table) → Valid t → (x : Step) → Known t x → ThreeDigits (stepNumber x)
 known-small t v (act k) h = omega (arith, v .head .actions)
 known-small t v (mth k) h = omega (arith, v .head .methods)
 
 small : (b f : ℕ) (t : Table) → Valid t → b ≤ mostBound → (os : List Operator) (s : State) → T (leb (height s) b) → TrueHeights f t s os
     → Run b f t 0 s (expandAll f t os)
-    → Small os
+    → AllSmall os
 small b f t v l [] s e h r = tt
 small b f t v l (o ∷ os) s e h r =
     let q = run-back b f t (o .what) s (expandAll f t os) r in (
-      known-small t v (o .what) (known t s (o .what) (and-l (allowed t s (o .what)) _ (q .each))),
-      omega (arith, leb→le (height s) b e, h .0),
+      record {
+        number = known-small t v (o .what) (known t s (o .what) (and-l (allowed t s (o .what)) _ (q .each)));
+        position = omega (arith, leb→le (height s) b e, h .0);
+      },
       small b f t v l os (afterAll t s (expand f t o)) (q .low) (h .1) (q .rest),
     )
 
@@ -121,14 +124,13 @@ module _ (b f : ℕ) (t : Table) (some : 1 ≤ b) (ls : List Line) (c o k : ℕ)
       }
 
 module _ {b f : ℕ} {s : List ℕ} {t : Table} (g : Given b f s t) where
-  -- What is in range is opened, and comes to the check of the plan's lines.
-  opens : (plan : List ℕ) → length plan ≤ mostPlanBytes → opened (planNumber plan) b f s ≡ answer t
-  opens plan l =
-      opened-is (planNumber plan) b f s (g .low) (g .high) (g .form) ∙ table-is (planNumber plan) s (g .size) (plan-fits plan l) ∙ g .reads
+  -- What is in range is opened, where the entry's own check passes, and comes to the check of the plan's lines.
+  pub opens : (late : ℕ) → late ≡ 0 → opened late b f s ≡ answer t
+  opens late z = opened-is late b f s (g .low) (g .high) (g .form) ∙ table-is late s (g .size) z ∙ g .reads
 
   checks : (plan : List ℕ) → length plan ≤ mostPlanBytes → checkPlan b f s plan ≡ checkLines b f t (linesOf plan)
   unfolding checkPlan
-  checks plan l = ap (λ (a : Answer Table). after a (λ t. checkLines b f t (linesOf plan))) (opens plan l)
+  checks plan l = ap (λ (a : Answer Table). after a (λ t. checkLines b f t (linesOf plan))) (opens (planNumber plan) (plan-fits plan l))
 
   table-valid : Valid t
   table-valid = read-valid s t (g .reads)
@@ -187,7 +189,7 @@ module _ {b f : ℕ} {s : List ℕ} {t : Table} (g : Given b f s t) where
     pub expansion-is : (size : ℕ) → expandPlan b f s plan size ≡ roomFor size 0 (stepBytes (expandAll f t (opersOf (linesOf plan))))
     unfolding expandPlan
     expansion-is size =
-        ap (λ (a : Answer Table). after a (λ t. stepsFor b f t plan size)) (opens plan l)
+        ap (λ (a : Answer Table). after a (λ t. stepsFor b f t plan size)) (opens (planNumber plan) (plan-fits plan l))
         ∙ ap (λ (a : Answer Tally). after a (λ _. roomFor size 0 (stepBytes (expandAll f t (opersOf (linesOf plan)))))) (sym (checks plan l) ∙ e)
 
     pub expansion : (size : ℕ) → 2 * k ≤ size → expandPlan b f s plan size ≡ answer (stepBytes (expandAll f t (opersOf (linesOf plan))))

@@ -5,9 +5,12 @@ pub mod Acceptance
 pub mod OneList
 pub mod SolutionLaws
 pub mod PlanTexts
+pub mod LineShapes
 pub mod StepBytes
 pub mod Demand3
 pub mod Expansion
+pub mod RefusalNumbers
+pub mod Completion
 pub mod Examples
 pub mod Listing
 pub mod Places

@@ -11,13 +11,14 @@ use Rattle.rules.specs.Operators.{Operator}
 use Rattle.basics.specs.Texts.{bytes, digit, digitsF, digits, ThreeDigits}
 use Rattle.rules.specs.Problems.{nameOf}
 use Rattle.rules.specs.Plans.{oper, isDigit, read, more, number, position, named, lineOf, linesOf, textOf, textsOf}
+use Rattle.theorems.specs.Shapes.{stepNumber, Small}
 use Rattle.laws.proofs.TestLaws.{and-l, and-r, and-i, cond-true, cond-false}
 use Rattle.laws.proofs.PlanLaws.{no-more, noFeed, fed}
 
 a-digit : (x : ℕ) → x < 10 → T (isDigit (48 + x))
 a-digit x h = and-i (leb 48 (48 + x)) (leb (48 + x) 57) (omega (arith, le→leb)) (omega (arith, le→leb))
 
-not-eqb : (a b : ℕ) → (a ≡ b → ⊥) → T (not (eqb a b))
+pub not-eqb : (a b : ℕ) → (a ≡ b → ⊥) → T (not (eqb a b))
 not-eqb a b h = rw (ne-eqb a b h) tt
 
 one-more : (j n x : ℕ) (cs : List ℕ) → x < 10 → more (suc j) n ((48 + x) ∷ cs) ≡ more j (n * 10 + x) cs
@@ -88,21 +89,16 @@ number-digits (suc n) c cs l h = go (ltb (suc n) 10) refl (ltb (suc n) 100) refl
         ∙ one-more 0 (m / 10 / 10 * 10 + m / 10 % 10) (m % 10) (c ∷ cs) (omega arith)
         ∙ ap (λ (k : ℕ). read k (c ∷ cs)) (omega arith)
 
--- The number of a step; an operator's numbers fit its text where they have at most three digits.
-abbrev pub numberOf : Step → ℕ
-numberOf (act k) = k
-numberOf (mth k) = k
-
 regrouped : (x d : List ℕ) → bytes "(" ++ (x ++ (32 ∷ d)) ++ bytes ")" ≡ 40 ∷ (x ++ (32 ∷ (d ++ (41 ∷ []))))
 regrouped x d = simp append-assoc
 
-text-of : (o : Operator) → textOf o ≡ 40 ∷ (nameOf (o .what) ++ (32 ∷ (digits (o .at) ++ (41 ∷ []))))
+pub text-of : (o : Operator) → textOf o ≡ 40 ∷ (nameOf (o .what) ++ (32 ∷ (digits (o .at) ++ (41 ∷ []))))
 text-of o = regrouped (nameOf (o .what)) (digits (o .at))
 
-line-of : (o : Operator) → ThreeDigits (numberOf (o .what)) → ThreeDigits (o .at) → lineOf (textOf o) ≡ oper o
-line-of o l h = ap lineOf (text-of o) ∙ go (o .what) (o .at) l h
+pub line-of : (o : Operator) → Small o → lineOf (textOf o) ≡ oper o
+line-of o h = ap lineOf (text-of o) ∙ go (o .what) (o .at) (h .number) (h .position)
   where
-    go : (x : Step) (i : ℕ) → ThreeDigits (numberOf x) → ThreeDigits i
+    go : (x : Step) (i : ℕ) → ThreeDigits (stepNumber x) → ThreeDigits i
         → lineOf (40 ∷ (nameOf x ++ (32 ∷ (digits i ++ (41 ∷ []))))) ≡ oper (record { what = x; at = i })
     go (act k) i l h = ap (named act) (number-digits k 32 _ l tt) ∙ ap (position (act k)) (number-digits i 41 [] h tt)
     go (mth k) i l h = ap (named mth) (number-digits k 32 _ l tt) ∙ ap (position (mth k)) (number-digits i 41 [] h tt)
@@ -129,7 +125,7 @@ noFeed-digits : (n : ℕ) → T (noFeed (digits n))
 unfolding digits
 noFeed-digits n = noFeed-digitsF n n
 
-noFeed-text : (o : Operator) → T (noFeed (textOf o))
+pub noFeed-text : (o : Operator) → T (noFeed (textOf o))
 noFeed-text o =
     subst (λ (l : List ℕ). T (noFeed l)) (sym (text-of o))
     (noFeed-append (nameOf (o .what)) _ (go (o .what)) (noFeed-append (digits (o .at)) (41 ∷ []) (noFeed-digits (o .at)) tt))
@@ -138,11 +134,11 @@ noFeed-text o =
     go (act k) = noFeed-digits k
     go (mth k) = noFeed-digits k
 
-abbrev pub Small : List Operator → Type 0
-Small [] = Unit {0}
-Small (o ∷ os) = ThreeDigits (numberOf (o .what)) × ThreeDigits (o .at) × Small os
+abbrev pub AllSmall : List Operator → Type 0
+AllSmall [] = Unit {0}
+AllSmall (o ∷ os) = Small o × AllSmall os
 
-pub lines-of : (os : List Operator) → Small os → linesOf (textsOf os) ≡ map oper os
+pub lines-of : (os : List Operator) → AllSmall os → linesOf (textsOf os) ≡ map oper os
 unfolding linesOf textsOf
 lines-of [] h = refl
-lines-of (o ∷ os) h = fed [] (textOf o) (textsOf os) (noFeed-text o) ∙ (λ i. line-of o (h .0) (h .1) i ∷ lines-of os (h .2) i)
+lines-of (o ∷ os) h = fed [] (textOf o) (textsOf os) (noFeed-text o) ∙ (λ i. line-of o (h .0) i ∷ lines-of os (h .1) i)

@@ -4,3 +4,5 @@ pub mod Solutions
 pub mod Demand
 pub mod Counts
 pub mod StepLists
+pub mod Shapes
+pub mod Numbers

@@ -1,0 +1,53 @@
+-- Which bytes are which line of a plan, said of the bytes and not of how they are read.
+use Prim.Native.Nat.{ℕ}
+use mathlib.Core.Path.{_≡_}
+use mathlib.Core.List.{List, [], _∷_, _++_}
+use Rattle.basics.specs.Texts.{ThreeDigits}
+use Rattle.rules.specs.Progression.{Step, act, mth}
+use Rattle.rules.specs.Operators.{Operator}
+use Rattle.rules.specs.Plans.{Line, note, oper, other, textOf}
+
+-- The number of a step; that an operator's two numbers "have one to three digits".
+abbrev pub stepNumber : Step → ℕ
+stepNumber (act k) = k
+stepNumber (mth k) = k
+
+pub record Small (o : Operator) : Type 0 where
+  pub number : ThreeDigits (stepNumber (o .what))
+  pub position : ThreeDigits (o .at)
+
+-- "`(`, `a` or `m`, a number, one space, a position, `)`", of which the line feed is taken off.
+pub record TextOf (o : Operator) (cs : List ℕ) : Type 0 where
+  pub text : cs ≡ textOf o
+  pub small : Small o
+
+-- "A line that starts with `;`".
+pub record Comment (cs : List ℕ) : Type 0 where
+  pub content : List ℕ
+  pub starts : cs ≡ 59 ∷ content
+
+-- A line in shape is a comment or the text of an operator.
+abbrev pub InShape : List ℕ → Line → Type 0
+InShape cs note = Comment cs
+InShape cs (oper o) = TextOf o cs
+InShape cs other = ⊥
+
+-- "line of another shape": none of these.
+abbrev pub LineIs : List ℕ → Line → Type 0
+LineIs cs note = InShape cs note
+LineIs cs (oper o) = InShape cs (oper o)
+LineIs cs other = (l : Line) → InShape cs l → ⊥
+
+abbrev pub NoFeed : List ℕ → Type 0
+NoFeed [] = Unit {0}
+NoFeed (c ∷ cs) = (c ≡ 10 → ⊥) × NoFeed cs
+
+-- The first line of a text, its line feed, and the rest.
+pub record Split (ds cs rest : List ℕ) : Type 0 where
+  pub first : NoFeed cs
+  pub whole : ds ≡ cs ++ (10 ∷ rest)
+
+-- A text of whole lines, each ended by a line feed and in shape.
+abbrev pub TextIs : List ℕ → List Line → Type 0
+TextIs ds [] = ds ≡ []
+TextIs ds (l ∷ ls) = (cs : List ℕ) × (rest : List ℕ) × Split ds cs rest × InShape cs l × TextIs rest ls
