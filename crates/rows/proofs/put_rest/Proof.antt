@@ -45,7 +45,8 @@ subtask-requires : tie.Need-subtask-requires Inv-loop μ-loop
 subtask-requires c κs = search needs
 
 -- a subtask of the method, whichever it is, fits a cell
-task-low : (w : List ℕ) (h : Held w) (k : ℕ) (l : k < methodCount (tableOf w)) {i r : ℕ} → r ≡ getD (method (tableOf w) k .subs) i 0 → i < length (method (tableOf w) k .subs) → r < mostTasks
+task-low : (w : List ℕ) (h : Held w) (k : ℕ) (l : k < methodCount (tableOf w)) {i r : ℕ}
+    → r ≡ getD (method (tableOf w) k .subs) i 0 → i < length (method (tableOf w) k .subs) → r < mostTasks
 task-low w h k l {i} e j = omega (arith, e, subtask-low w h k l i j, h .valid .head .tasks)
 
 cast-cells : tie.Need-cast-cells Inv-loop μ-loop
