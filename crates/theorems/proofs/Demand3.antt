@@ -23,7 +23,7 @@ use Rattle.laws.proofs.RefusalLaws.{table-is, read-valid, opened-is, plan-fits,
 use Rattle.theorems.specs.Runs.{Run, CompleteRun, TrueHeights}
 use Rattle.theorems.specs.Shapes.{stepNumber}
 use Rattle.theorems.specs.Solutions.{Solution, actionsOf, summed}
-use Rattle.theorems.specs.Demand.{Given, Accepted, ListOf}
+use Rattle.theorems.specs.Demand.{Given, Accepted, ListOf, Fitting}
 use Rattle.theorems.specs.StepLists.{stepsOf, Numbered, AllBytes}
 use Rattle.laws.proofs.TestLaws.{and-l, and-r}
 use Rattle.laws.proofs.StepLaws.{bytes-length}
@@ -152,7 +152,7 @@ module _ {b f : ℕ} {s : List ℕ} {t : Table} (g : Given b f s t) where
       )
 
   -- (c) The text of that list is accepted, with the run's cost, operators and steps.
-  pub run-accepted : (xs : List Step) → CompleteRun b f t xs → (os : List Operator) → ListOf f t xs os → length (textsOf os) ≤ mostPlanBytes
+  pub run-accepted : (xs : List Step) → CompleteRun b f t xs → (os : List Operator) → ListOf f t xs os → Fitting os
       → checkPlan b f s (textsOf os) ≡ accepted (totalCost t xs) (length os) (length xs)
   run-accepted xs r os h l =
       let q = h .heights in

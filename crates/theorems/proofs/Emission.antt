@@ -7,6 +7,7 @@ use mathlib.Core.Bool.{Bool, true, false, not, cond}
 use native.Mathlib.Omega.{arith}
 use lib.Dec.{T, leb, ltb, eqb, leb→le, le→leb, ltb→lt, T-not}
 use borrow.Author.Tests.{lt-ltb, le-ltb, eq-eqb, eqb-true, eqb-false}
+use Rattle.theorems.specs.Emitted.{UpTo, UpToLess, Alone}
 use Rattle.basics.specs.Lists.{rows}
 use Rattle.rules.specs.Tables.{Table, factCount, actionCount, methodCount, method}
 use Rattle.rules.specs.Facts.{without, joinFrom, joinOf, membersFrom, membersOf}
@@ -67,14 +68,14 @@ module _ (b f : ℕ) (t : Table) (k i : ℕ) where
 
   -- The same, case by case: r = 0, r > 0, r > b, dead.
   pub none-stays : k < methodCount t → T (not (joined f t (mth k) .dead)) → remain f t k ≡ 0
-      → T (emitted b f t (record { what = mth k; at = i })) ↔ ((1 ≤ i) × (i ≤ b))
+      → T (emitted b f t (record { what = mth k; at = i })) ↔ UpTo b i
   none-stays m d z = (
     (λ h. let q = method-emitted .0 h in (q .2, omega (arith, q .3))),
     (λ h. method-emitted .1 (m, d, h .0, omega (arith, h .1), omega (arith, h .1))),
   )
 
   pub some-stay : k < methodCount t → T (not (joined f t (mth k) .dead)) → 0 < remain f t k
-      → T (emitted b f t (record { what = mth k; at = i })) ↔ ((1 ≤ i) × (i + remain f t k ≤ b + 1))
+      → T (emitted b f t (record { what = mth k; at = i })) ↔ UpToLess b (remain f t k) i
   some-stay m d p = (
     (λ h. let q = method-emitted .0 h in (q .2, q .4)),
     (λ h. method-emitted .1 (m, d, h .0, omega (arith, h .1), h .1)),
@@ -97,11 +98,11 @@ unfolding membersFrom
 no-members zero k = refl
 no-members (suc n) k = rw (has-zero k) (no-members n (suc k))
 
-alone : (f : ℕ) (t : Table) (k : ℕ) → Valid t → k < methodCount t → method t k .subs ≡ method t k .head ∷ [] → prefix f t k ≡ []
+alone : (f : ℕ) (t : Table) (k : ℕ) → Valid t → k < methodCount t → Alone t k → prefix f t k ≡ []
 alone zero t k v l e = refl
 alone (suc f) t k v l e = rw (e, le-ltb (method t k .head) (actionCount t) (v .method k l .low))
 
-pub idle : (f : ℕ) (t : Table) (k i : ℕ) → Valid t → k < methodCount t → method t k .subs ≡ method t k .head ∷ []
+pub idle : (f : ℕ) (t : Table) (k i : ℕ) → Valid t → k < methodCount t → Alone t k
     → operOf f t (record { what = mth k; at = i }) .effects ≡ []
 unfolding operOf operAt joined joinOf joinFrom rows membersOf without
 idle f t k i v l e =

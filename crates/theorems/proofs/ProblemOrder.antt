@@ -17,6 +17,7 @@ use Rattle.version3.specs.Order.{Each, Rising, GoodSetting, Below, GoodEffect, 
 use Rattle.version3.proofs.OrderLaws.{each-append, each-map, each-of, rising-once, climb-append, climb-rising}
 use Rattle.laws.specs.Valid.{Valid}
 use Rattle.laws.proofs.ListLaws.{rows-length, rows-at}
+use Rattle.theorems.specs.Emitted.{SomePosition}
 use Rattle.theorems.proofs.Listing.{listed}
 use Rattle.theorems.proofs.Places.{There, there, task-low, leaf-low}
 use Rattle.theorems.proofs.ValueCounts.{names-many, heights-many, variablesOf, values-are, values-counted}
@@ -170,7 +171,7 @@ module _ (b f : ℕ) (t : Table) (v : Valid t) (o : Operator) (m : T (emitted b 
         once = lines-once top (noTask t) j task i rest (h .low);
       }
 
-pub problem-in-order : (b f : ℕ) (t : Table) → Valid t → 1 ≤ b → InOrder (problemOf b f t)
+pub problem-in-order : (b f : ℕ) (t : Table) → Valid t → SomePosition b → InOrder (problemOf b f t)
 unfolding problemOf
 problem-in-order b f t v low =
     let n = variableCount b t in

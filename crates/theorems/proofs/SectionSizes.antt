@@ -14,7 +14,7 @@ use Rattle.version3.specs.Problems.{Setting, Effect, Oper, valuesOf}
 use Rattle.version3.specs.Spelling.{wordLine, numberLine, counted, preamble, spellVariable, spellSetting, spellBefore, spellEffect, middle, spellOper, spell}
 use Rattle.version3.specs.Order.{Each, GoodSetting, Below, GoodEffect}
 use Rattle.version3.proofs.OrderLaws.{each-append, each-rows, each-map, each-as, each-of, each-at}
-use Rattle.rules.specs.Limits.{mostFacts, mostTasks, mostSubtasks, mostBound, mostSectionBytes}
+use Rattle.rules.specs.Limits.{mostFacts, mostTasks, mostSubtasks, mostBound}
 use Rattle.rules.specs.Tables.{Table, factCount, taskCount, startFacts, goalFacts}
 use Rattle.rules.specs.Facts.{has, membersOf}
 use Rattle.rules.specs.Progression.{Step, act, mth}
@@ -26,15 +26,13 @@ use Rattle.laws.proofs.ListLaws.{rows-length}
 use Rattle.laws.proofs.TextLaws.{digits-le}
 use Rattle.laws.proofs.MemberLaws.{members-few}
 use Rattle.laws.proofs.CountLaws.{operators-few}
+use Rattle.theorems.specs.Emitted.{Short}
 use Rattle.theorems.proofs.Heights.{Known}
 use Rattle.theorems.proofs.Listing.{listed}
 use Rattle.theorems.proofs.Places.{there, cost-most}
 use Rattle.theorems.proofs.ValueCounts.{names-many, heights-many, variablesOf, values-are}
 use Rattle.theorems.proofs.ProblemOrder.{good-goal, good-operator}
 use Rattle.theorems.proofs.LineCounts.{lines-few}
-
-abbrev Short : List ℕ → Type 0
-Short x = length x ≤ mostSectionBytes
 
 -- ---- words and lines
 
@@ -110,7 +108,7 @@ module _ (b : ℕ) (t : Table) (valid : Valid t) (low : b ≤ mostBound) where
                 (λ k q. omega (arith, word-line (bytes "t" ++ digits k), three k (omega (arith, few-tasks))))) (omega arith, tt)),
           )
 
-  pub variable-short : (v : ℕ) → v < variableCount b t → length (spellVariable (variableOf b t v)) ≤ mostSectionBytes
+  pub variable-short : (v : ℕ) → v < variableCount b t → Short (spellVariable (variableOf b t v))
   unfolding spellVariable variableOf
   variable-short v l =
       let small : ThreeDigits v = omega (arith, few-variables) in
@@ -241,5 +239,5 @@ sections-short b f t valid low =
     ))
     (omega arith, tt)
 
-pub section-short : {t : Table} {b : ℕ} → Valid t → b ≤ mostBound → (f k : ℕ) → length (getD (sectionsOf b f t) k []) ≤ mostSectionBytes
+pub section-short : {t : Table} {b : ℕ} → Valid t → b ≤ mostBound → (f k : ℕ) → Short (getD (sectionsOf b f t) k [])
 section-short {t} {b} valid low f k = each-at Short (sectionsOf b f t) [] (sections-short b f t valid low) (omega arith) k

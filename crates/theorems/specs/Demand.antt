@@ -9,7 +9,7 @@ use Rattle.rules.specs.Limits.{mostBound, mostTableBytes, mostPlanBytes}
 use Rattle.rules.specs.Tables.{Table, decode}
 use Rattle.rules.specs.Progression.{Step, begin, totalCost}
 use Rattle.rules.specs.Operators.{Operator, expandAll}
-use Rattle.rules.specs.Plans.{Line, linesOf, opersOf, shaped}
+use Rattle.rules.specs.Plans.{Line, linesOf, opersOf, shaped, textsOf}
 use Rattle.rules.specs.Refusals.{readOf}
 use Rattle.theorems.specs.Runs.{CompleteRun, TrueHeights}
 
@@ -52,3 +52,7 @@ stepsOfPlan {f = f} {plan = plan} q = expandAll f (q .table) (opersOf (linesOf p
 pub record ListOf (f : ℕ) (t : Table) (xs : List Step) (os : List Operator) : Type 0 where
   pub heights : TrueHeights f t (begin t) os
   pub expands : expandAll f t os ≡ xs
+
+-- "its text fits that size".
+abbrev pub Fitting : List Operator → Type 0
+Fitting os = length (textsOf os) ≤ mostPlanBytes

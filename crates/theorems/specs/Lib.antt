@@ -3,6 +3,7 @@ pub mod Runs
 pub mod Solutions
 pub mod Demand
 pub mod Counts
+pub mod Emitted
 pub mod StepLists
 pub mod Shapes
 pub mod Numbers
