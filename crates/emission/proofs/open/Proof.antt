@@ -4,7 +4,7 @@ use Rattle.rules.specs.Refusals.{wholeProblem}
 use Rattle.rules.specs.Programs.{emitInput}
 use Rattle.opening.proofs.OpeningLaws.{goes-on}
 use Rattle.report.proofs.InputLaws.{last-part}
-use Rattle.emission.proofs.PartLaws.{refusal-does, problem-does}
+use Rattle.emission.proofs.JobLaws.{refusal-does, problem-does}
 use borrow.Author.Needs.{needs}
 use Rattle.emission.proofs.open.Statement.{statement}
 use Rattle.emission.proofs.open.Tie as tie

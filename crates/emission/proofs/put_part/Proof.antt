@@ -4,7 +4,7 @@ use native.Mathlib.Omega.{arith}
 use Rattle.words.specs.Words.{tableOf}
 use Rattle.emission.specs.Jobs.{pieceCount, Stands}
 use Rattle.emission.specs.declared.Job.{Job}
-use Rattle.emission.proofs.PartLaws.{PartOf, refused-part}
+use Rattle.emission.proofs.JobLaws.{PartOf, refused-part}
 use borrow.Author.Needs.{needs}
 use Rattle.emission.proofs.put_part.Statement.{statement}
 use Rattle.emission.proofs.put_part.Tie as tie

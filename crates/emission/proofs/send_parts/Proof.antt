@@ -3,7 +3,7 @@ use mathlib.Core.Path.{_≡_}
 use lib.ListN.{length}
 use Rattle.words.specs.Words.{tableOf}
 use Rattle.emission.specs.Jobs.{pieceCount}
-use Rattle.emission.proofs.PartLaws.{stands-held}
+use Rattle.emission.proofs.JobLaws.{stands-held}
 use borrow.Author.Needs.{needs}
 use Rattle.emission.proofs.send_parts.Statement.{statement}
 use Rattle.emission.proofs.send_parts.Tie as tie

@@ -12,8 +12,8 @@ use Rattle.problem.specs.Sizes.{mostVariables}
 use Rattle.text.specs.Appends.{Appends}
 use Rattle.text.proofs.AppendLaws.{_▸_, appends-is, appends-none}
 use Rattle.text.proofs.PutLaws.{appended}
-use Rattle.emission.proofs.put_variables.Statement.{statement}
-use Rattle.emission.proofs.put_variables.Tie as tie
+use Rattle.parts.proofs.put_variables.Statement.{statement}
+use Rattle.parts.proofs.put_variables.Tie as tie
 
 abbrev Inv-loop : tie.InvT-loop
 Inv-loop words bound out₀ at variables next₀ v₀ out next v =

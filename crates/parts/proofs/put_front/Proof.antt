@@ -3,8 +3,8 @@ use Rattle.laws.specs.Steps.{frontText}
 use Rattle.text.proofs.AppendLaws.{_▸_}
 use Rattle.text.proofs.PutLaws.{appended}
 use borrow.Author.Needs.{needs}
-use Rattle.emission.proofs.put_front.Statement.{statement}
-use Rattle.emission.proofs.put_front.Tie as tie
+use Rattle.parts.proofs.put_front.Statement.{statement}
+use Rattle.parts.proofs.put_front.Tie as tie
 
 put-preamble-requires : tie.Need-put-preamble-requires
 put-preamble-requires c κs = search needs

@@ -2,13 +2,13 @@ use Rattle.text.proofs.PutLaws.{appended}
 use Prim.Native.Nat.{ℕ, _+_}
 use mathlib.Core.Path.{ap, _∙_}
 use Rattle.basics.specs.Lists.{upto}
-use Rattle.emission.specs.Jobs.{problemPiece}
+use Rattle.parts.specs.Pieces.{problemPiece}
 use native.Mathlib.Omega.{arith}
 use Rattle.words.specs.Words.{tableOf}
-use Rattle.emission.proofs.PartLaws.{first-part, last-part}
+use Rattle.parts.proofs.PieceLaws.{first-part, last-part}
 use borrow.Author.Needs.{needs}
-use Rattle.emission.proofs.put_problem.Statement.{statement}
-use Rattle.emission.proofs.put_problem.Tie as tie
+use Rattle.parts.proofs.put_problem.Statement.{statement}
+use Rattle.parts.proofs.put_problem.Tie as tie
 
 put-front-requires : tie.Need-put-front-requires
 put-front-requires c κs = search needs

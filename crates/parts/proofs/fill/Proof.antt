@@ -8,11 +8,11 @@ use Rattle.laws.specs.Steps.{stepText}
 use Rattle.words.specs.Words.{tableOf}
 use Rattle.text.proofs.AppendLaws.{appends-is}
 use Rattle.template.specs.Sizes.{stepTextBytes}
-use Rattle.emission.specs.Jobs.{problemPiece}
-use Rattle.emission.proofs.PartLaws.{part-more, piece-of-step}
+use Rattle.parts.specs.Pieces.{problemPiece}
+use Rattle.parts.proofs.PieceLaws.{part-more, piece-of-step}
 use borrow.Author.Needs.{needs}
-use Rattle.emission.proofs.fill.Statement.{statement}
-use Rattle.emission.proofs.fill.Tie as tie
+use Rattle.parts.proofs.fill.Statement.{statement}
+use Rattle.parts.proofs.fill.Tie as tie
 
 abbrev Inv-loop : tie.InvT-loop
 Inv-loop words bound form figures from out₀ steps room next₀ size₀ out next size =
