@@ -1,12 +1,11 @@
 // The sections that stand around the operators: preamble, variables, state and goal.
 ghost use mathlib.Core.Path.{_≡_};
 ghost use mathlib.Core.Bool.{cond};
-ghost use mathlib.Core.List.{_++_};
 ghost use Prim.Native.Nat.{_+_, _≤_, _<_};
 ghost use lib.ListN.{length};
 ghost use Rattle.basics.specs.Lists.{upto};
-ghost use Rattle.basics.specs.Texts.{digits, ThreeDigits};
-ghost use Rattle.version3.specs.Spelling.{wordLine, numberLine, preamble, spellVariable, middle};
+ghost use Rattle.basics.specs.Texts.{ThreeDigits};
+ghost use Rattle.version3.specs.Spelling.{preamble, spellVariable, middle};
 ghost use Rattle.rules.specs.Limits.{mostFacts, mostTasks, mostBound, mostSectionBytes};
 ghost use Rattle.rules.specs.Tables.{startFacts};
 ghost use Rattle.rules.specs.Facts.{has as Facts·has};

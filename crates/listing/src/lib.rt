@@ -1,5 +1,4 @@
 // The lines of the facts of a set. No other writer walks over a set.
-ghost use mathlib.Core.Path.{_≡_};
 ghost use Prim.Native.Nat.{_+_, _≤_, _<_};
 ghost use Rattle.version3.specs.Spelling.{spellSetting, spellEffect};
 ghost use Rattle.rules.specs.Limits.{mostFacts};

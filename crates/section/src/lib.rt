@@ -186,9 +186,9 @@ fn put_composed(
     ensures { λ r. ⌜ Fits (now (part .entry)) (rendered (now (t .entry)) (now (lens .entry)) (now (offs .entry)) pen p) (now (part .exit)) r ⌝ }
 {
     let mut none = [0u8; 0];
-    let size = template::put_exactly(&mut none, 0, t, lens, offs, pen, p);
-    if part.len() < size {
-        return size;
+    let length = template::put_exactly(&mut none, 0, t, lens, offs, pen, p);
+    if part.len() < length {
+        return length;
     }
     template::put_exactly(part, 0, t, lens, offs, pen, p)
 }

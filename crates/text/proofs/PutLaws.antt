@@ -1,11 +1,13 @@
 -- Laws of writers that count where there is no room: two, one after the other, write one text.
 use mathlib.Core.Path.{_≡_, refl, sym, ap, _∙_}
 use mathlib.Core.List.{List, [], _∷_, _++_}
-use Prim.Native.Nat.{ℕ, _+_, _≤_, _<_}
+use Prim.Native.Nat.{ℕ, _+_, _/_, _%_, _≤_, _<_}
 use native.Mathlib.Omega.{arith}
 use lib.ListN.{length, set, length-append, length-set}
 use lib.Seq.{sets}
+use Rattle.basics.specs.Texts.{digits}
 use Rattle.laws.proofs.StepLaws.{sets-append}
+use Rattle.laws.proofs.TextLaws.{digits-one, digits-more}
 use Rattle.text.specs.Appends.{Appends}
 use Rattle.text.specs.Puts.{Puts}
 use Rattle.text.proofs.AppendLaws.{appends-sets}
@@ -42,6 +44,15 @@ puts-sets o x n a r e w l = record { next = e; size = l; text = λ _. w }
 
 pub puts-one : (o : List ℕ) (a b r : ℕ) → r ≡ a + 1 → Puts o a (b ∷ []) (set o a b) r
 puts-one o a b r e = puts-sets o (b ∷ []) (set o a b) a r e refl (length-set o a b)
+
+-- A number, by its last digit b.
+module _ {o n : List ℕ} {a r b : ℕ} (k : ℕ) where
+  pub number-one : k < 10 → b ≡ 48 + k % 10 → Puts o a (b ∷ []) n r → Puts o a (digits k) n r
+  number-one h e w = puts-is (digits-one k h ∙ ap (λ (c : ℕ). c ∷ []) (sym e)) w
+
+  pub number-more : {m : List ℕ} {q : ℕ} → 10 ≤ k → Puts o a (digits (k / 10)) m q → b ≡ 48 + k % 10 → Puts m q (b ∷ []) n r
+      → Puts o a (digits k) n r
+  number-more h w e v = puts-is (digits-more k h ∙ ap (λ (c : ℕ). digits (k / 10) ++ (c ∷ [])) (sym e)) (w ▹ v)
 
 -- Where there is room, the text stands after what was before it.
 pub appended : {o x n : List ℕ} {a r : ℕ} → Puts o a x n r → r ≤ length o → Appends o a x n r

@@ -2,7 +2,7 @@
 // ends before that place, it is only counted: lent no text at all, a writer measures.
 ghost use mathlib.Core.Path.{_≡_};
 ghost use mathlib.Core.List.{[], _∷_, _++_};
-ghost use Prim.Native.Nat.{_+_, _≤_};
+ghost use Prim.Native.Nat.{_+_, _%_, _≤_, _<_};
 ghost use lib.ListN.{length};
 ghost use lib.Seq.{sets};
 ghost use Rattle.basics.specs.Texts.{digits, ThreeDigits};
@@ -44,17 +44,48 @@ fn put_byte(out: &mut [u8], at: usize, b: u8) -> usize
     next
 }
 
+// The last digit of n.
+fn last_digit(n: u64) -> u8
+    ensures { λ r. ⌜ r ≡ 48 + n % 10 ⌝ }
+{
+    b'0' + (n % 10) as u8
+}
+
 // n in decimal.
 fn put_digits(out: &mut [u8], at: usize, n: u64) -> usize
     requires { ⌜ at + length (digits n) ≤ farthest ⌝ }
     ensures { λ r. ⌜ Puts (now (out .entry)) at (digits n) (now (out .exit)) r ⌝ }
 {
-    let last = b'0' + (n % 10) as u8;
     if n < 10 {
-        return put_byte(out, at, last);
+        return put_byte(out, at, last_digit(n));
     }
     let next = put_digits(out, at, n / 10);
-    put_byte(out, next, last)
+    put_byte(out, next, last_digit(n))
+}
+
+// The same for two digits at most, and for three: nearly all numbers are such, and these call nothing that calls itself.
+fn put_two(out: &mut [u8], at: usize, n: u64) -> usize
+    requires { ⌜ (at + 2 ≤ farthest) × (n < 100) ⌝ }
+    ensures { λ r. ⌜ Puts (now (out .entry)) at (digits n) (now (out .exit)) r ⌝ }
+    ensures { λ r. ⌜ r ≤ at + 2 ⌝ }
+{
+    if n < 10 {
+        return put_byte(out, at, last_digit(n));
+    }
+    let second = put_byte(out, at, last_digit(n / 10));
+    put_byte(out, second, last_digit(n))
+}
+
+fn put_three(out: &mut [u8], at: usize, n: u64) -> usize
+    requires { ⌜ (at + 3 ≤ farthest) × ThreeDigits n ⌝ }
+    ensures { λ r. ⌜ Puts (now (out .entry)) at (digits n) (now (out .exit)) r ⌝ }
+    ensures { λ r. ⌜ r ≤ at + 3 ⌝ }
+{
+    if n < 100 {
+        return put_two(out, at, n);
+    }
+    let third = put_two(out, at, n / 10);
+    put_byte(out, third, last_digit(n))
 }
 
 // Any number: 20 digits at most.
@@ -73,5 +104,5 @@ pub fn put_field(out: &mut [u8], at: usize, s: &[u8], n: u64) -> usize
     ensures { λ r. ⌜ r ≤ at + length (now (s .entry)) + 3 ⌝ }
 {
     let next = put(out, at, s);
-    put_digits(out, next, n)
+    put_three(out, next, n)
 }

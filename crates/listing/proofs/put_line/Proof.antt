@@ -3,7 +3,6 @@ use borrow.Author.Needs.{needs}
 use native.Mathlib.Omega.{arith}
 use mathlib.Core.Path.{sym, ap, _∙_}
 use borrow.Author.Tests.{not-true, not-false}
-use Prim.Native.Nat.{ℕ}
 use Rattle.text.proofs.PutLaws.{puts-is, puts-none}
 use Rattle.listing.proofs.LineLaws.{line-there, line-missing}
 use Rattle.listing.specs.declared.Says.{Says}

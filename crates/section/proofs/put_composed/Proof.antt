@@ -1,4 +1,5 @@
 use borrow.Author.Needs.{needs}
+use native.Mathlib.Omega.{arith}
 use Rattle.section.proofs.FitLaws.{fits-short, fits-put}
 use Rattle.section.proofs.put_composed.Statement.{statement}
 use Rattle.section.proofs.put_composed.Tie as tie
@@ -10,7 +11,7 @@ put-exactly-requires : tie.Need-put-exactly-requires
 put-exactly-requires c κs = search needs
 
 returns : tie.Need-returns
-returns c = fits-short (c .before .before .put-exactly .ensures) (c .before .before .before .before .before .before .before .before .args .part .now) (c .if1 .taken)
+returns c = fits-short (c .before .before .put-exactly .ensures) (c .before .before .before .before .before .before .before .before .args .part .now) (omega (arith, c .if1 .taken))
 
 put-exactly-requires-2 : tie.Need-put-exactly-requires-2
 put-exactly-requires-2 c κs = search needs
@@ -19,7 +20,7 @@ same-length : tie.Need-same-length
 same-length c = search needs
 
 returns-2 : tie.Need-returns-2
-returns-2 c = fits-put (c .before .before .before .before .before .before .put-exactly .ensures) (c .before .before .before .before .if1 .left) (c .before .before .put-exactly2 .ensures)
+returns-2 c = fits-put (c .before .before .before .before .before .before .put-exactly .ensures) (omega (arith, c .before .before .before .before .if1 .left)) (c .before .before .put-exactly2 .ensures)
 
 pub put-composed-spec : {M : Type 1} → statement M
 put-composed-spec =

@@ -1,6 +1,5 @@
 use borrow.Author.Needs.{needs}
 use native.Mathlib.Omega.{arith}
-use Rattle.laws.proofs.TextLaws.{digits-le}
 use Rattle.text.proofs.PutLaws.{_▹_}
 use Rattle.text.proofs.put_field.Statement.{statement}
 use Rattle.text.proofs.put_field.Tie as tie
@@ -8,23 +7,14 @@ use Rattle.text.proofs.put_field.Tie as tie
 put-requires : tie.Need-put-requires
 put-requires c κs = search needs
 
-put-digits-requires : tie.Need-put-digits-requires
-put-digits-requires c κs =
-    let p = c .before .before .before in
-    let s = p .before .before .before .before in
-    omega (arith, p .put .ensures .next, digits-le 2 (s .args .n) (s .pre .1))
+put-three-requires : tie.Need-put-three-requires
+put-three-requires c κs = search needs
 
 same-length : tie.Need-same-length
 same-length c = search needs
 
 returns : tie.Need-returns
-returns c =
-    let q = c .before .before in
-    let p = q .before .before .before .before in
-    let s = p .before .before .before .before in (
-      p .put .ensures ▹ q .put-digits .ensures,
-      omega (arith, p .put .ensures .next, q .put-digits .ensures .next, digits-le 2 (s .args .n) (s .pre .1)),
-    )
+returns c = (c .before .before .before .before .before .before .put .ensures ▹ c .before .before .put-three .ensures .0, omega (arith, c .before .before .before .before .before .before .put .ensures .next, c .before .before .put-three .ensures .1))
 
 pub put-field-spec : {M : Type 1} → statement M
-put-field-spec = tie.close (tie.spec put-requires put-digits-requires same-length returns)
+put-field-spec = tie.close (tie.spec put-requires put-three-requires same-length returns)
