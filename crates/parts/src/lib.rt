@@ -101,7 +101,7 @@ fn fill(words: &[u64], bound: u64, form: u64, figures: &[u8], from: usize, out: 
         if room < size {
             return Part { next, size };
         }
-        size = section::put_operators(words, bound, form, next - 1, figures, out, size);
+        size = step_text::put_operators(words, bound, form, next - 1, figures, out, size);
         next += 1;
     }
     Part { next, size }

@@ -18,7 +18,7 @@ use Rattle.laws.specs.Steps.{stepAt, variableText, operatorText}
 use Rattle.laws.proofs.CountLaws.{sections-length}
 use Rattle.laws.proofs.SectionLaws.{section-first, section-variable, section-middle, section-operator, section-last}
 use Rattle.problem.specs.Places.{IsPlace}
-use Rattle.section.specs.Operators.{operatorTextAt}
+use Rattle.step_text.specs.Operators.{operatorTextAt}
 
 module _ (b f : ℕ) (t : Table) (k : ℕ) where
   here : (m : ℕ) {x : List ℕ} → k ≡ m → m < length (sectionsOf b f t) → getD (sectionsOf b f t) m [] ≡ x → chosen (sectionsOf b f t) k ≡ answer x

@@ -1,3 +1,2 @@
-mod StepLaws
 mod ChosenLaws
 mod FitLaws

@@ -1,4 +1,4 @@
-// One section of a problem, and all operators of one step.
+// One section of a problem.
 ghost use mathlib.Core.Path.{_≡_};
 ghost use Prim.Native.Nat.{_+_, _*_, _≤_, _<_};
 ghost use lib.ListN.{length};
@@ -6,134 +6,23 @@ ghost use Rattle.basics.specs.Answers.{replyOf, lengthOf};
 ghost use Rattle.basics.specs.Texts.{bytes};
 ghost use Rattle.version3.specs.Spelling.{preamble, middle};
 ghost use Rattle.rules.specs.Limits.{mostBound};
-ghost use Rattle.rules.specs.Tables.{factCount, taskCount, actionCount, methodCount};
+ghost use Rattle.rules.specs.Tables.{actionCount, methodCount};
 ghost use Rattle.rules.specs.Operators.{positions};
 ghost use Rattle.rules.specs.Problems.{variableCount, problemOf};
 ghost use Rattle.rules.specs.Sections.{sectionsOf};
 ghost use Rattle.rules.specs.Refusals.{chosen, sectionFor, written};
-ghost use Rattle.laws.specs.Steps.{stepAt, variableText, stepText};
+ghost use Rattle.laws.specs.Steps.{stepAt, variableText};
 ghost use Rattle.words.specs.Words.{tableOf, Held};
-ghost use Rattle.text.specs.Appends.{Appends};
-ghost use Rattle.template.specs.Sizes.{margin, figureCount, operatorBytes, stepTextBytes};
-ghost use Rattle.template.specs.Figures.{Figures};
-ghost use Rattle.template.specs.Templates.{PenStands, Drawn, Blank, rendered};
-ghost use Rattle.rows.specs.Rows.{rowAt};
-ghost use Rattle.compose.specs.RowTexts.{Fit};
+ghost use Rattle.template.specs.Sizes.{operatorBytes};
+ghost use Rattle.template.specs.Templates.{PenStands, rendered};
+ghost use Rattle.step_text.specs.Operators.{operatorTextAt};
 ghost use Rattle.section.specs.Fits.{Fits};
-ghost use Rattle.section.specs.Operators.{Names, rowTextAt, operatorTextAt, IsComposed};
 use basics::Reply;
 use problem::Found;
-use rows::row;
 use rules::reasons::NO_SUCH_SECTION;
 use template::MOST_NUMBERS;
 use template::Pen;
 use template::TEMPLATE_BYTES;
-
-// The letter and the number of a step's name.
-struct Label {
-    letter: u8,
-    number: u64,
-}
-
-fn label_of(words: &[u64], i: usize) -> Label
-    requires { ⌜ Held (now words) ⌝ }
-    ensures { λ r. ⌜ Names (tableOf (now (words .entry))) i r ⌝ }
-{
-    let actions = words::action_count(words) as usize;
-    if i < actions {
-        return Label {
-            letter: b'a',
-            number: i as u64,
-        };
-    }
-    let k = i - actions;
-    Label {
-        letter: b'm',
-        number: k as u64,
-    }
-}
-
-// The template of the operators of step i, from its row.
-fn compose_row(
-    words: &[u64],
-    i: usize,
-    ops: &[u64],
-    cells: &[u16],
-    t: &mut [u8],
-    lens: &mut [usize],
-    offs: &mut [usize],
-) -> Pen
-    requires { ⌜ Held (now words) × Fit (factCount (tableOf (now words))) (taskCount (tableOf (now words))) i (now ops) (now cells) ⌝ }
-    requires { ⌜ Blank (now t) (now lens) (now offs) ⌝ }
-    ensures { λ r. ⌜ Drawn (now (t .exit)) (now (lens .exit)) (now (offs .exit)) r (rowTextAt (tableOf (now (words .entry))) i (rowAt (now (ops .entry)) (now (cells .entry)) 0)) ⌝ }
-    ensures { λ r. ⌜ (r .at + 3 * r .count ≤ operatorBytes) × (length (now (t .exit)) ≡ length (now (t .entry))) ⌝ }
-{
-    let top = words::fact_count(words);
-    let free = words::task_count(words);
-    let label = label_of(words, i);
-    compose::compose(
-        top,
-        free,
-        label.letter,
-        label.number,
-        ops,
-        cells,
-        t,
-        lens,
-        offs,
-    )
-}
-
-// A step's template, and at how many positions it has an operator.
-struct Composed {
-    pen: Pen,
-    count: usize,
-}
-
-fn compose_step(
-    words: &[u64],
-    bound: u64,
-    form: u64,
-    i: usize,
-    t: &mut [u8],
-    lens: &mut [usize],
-    offs: &mut [usize],
-) -> Composed
-    requires { ⌜ Held (now words) × (bound ≤ mostBound) × (i < actionCount (tableOf (now words)) + methodCount (tableOf (now words))) ⌝ }
-    requires { ⌜ Blank (now t) (now lens) (now offs) ⌝ }
-    ensures { λ r. ⌜ IsComposed bound form (tableOf (now (words .entry))) i (now (t .exit)) (now (lens .exit)) (now (offs .exit)) r ⌝ }
-    ensures { λ _. ⌜ length (now (t .exit)) ≡ length (now (t .entry)) ⌝ }
-{
-    let mut ops = [0u64; row::WORDS];
-    let mut cells = [0u16; row::CELLS];
-    rows::one_row(words, bound, form, i, &mut ops, &mut cells);
-    let pen = compose_row(words, i, &ops, &cells, t, lens, offs);
-    let count = row::last(&ops, &cells, 0) as usize;
-    Composed { pen, count }
-}
-
-// The operators of step i at every position that they exist at, rising.
-pub fn put_operators(
-    words: &[u64],
-    bound: u64,
-    form: u64,
-    i: usize,
-    figures: &[u8],
-    out: &mut [u8],
-    at: usize,
-) -> usize
-    requires { ⌜ Held (now words) × (bound ≤ mostBound) × (i < actionCount (tableOf (now words)) + methodCount (tableOf (now words))) ⌝ }
-    requires { ⌜ Figures (now figures) figureCount × (at + stepTextBytes + margin ≤ length (now out)) ⌝ }
-    ensures { λ r. ⌜ Appends (now (out .entry)) at (stepText bound form (tableOf (now (words .entry))) i) (now (out .exit)) r ⌝ }
-    ensures { λ r. ⌜ r ≤ at + stepTextBytes ⌝ }
-{
-    let mut t = [0u8; TEMPLATE_BYTES];
-    let mut lens = [0usize; MOST_NUMBERS];
-    let mut offs = [0usize; MOST_NUMBERS];
-    let step = compose_step(words, bound, form, i, &mut t, &mut lens, &mut offs);
-    let pen = step.pen;
-    template::put_positions(out, at, &t, &lens, &offs, figures, pen, step.count)
-}
 
 // Each kind of section, at the start of the part that is lent where there is room for it; its length. The section is measured
 // before the first byte is written.
@@ -202,7 +91,7 @@ fn put_operator(words: &[u64], bound: u64, form: u64, i: usize, p: usize, part: 
     let mut t = [0u8; TEMPLATE_BYTES];
     let mut lens = [0usize; MOST_NUMBERS];
     let mut offs = [0usize; MOST_NUMBERS];
-    let step = compose_step(words, bound, form, i, &mut t, &mut lens, &mut offs);
+    let step = step_text::compose_step(words, bound, form, i, &mut t, &mut lens, &mut offs);
     let pen = step.pen;
     put_composed(&t, &lens, &offs, pen, p, part)
 }

@@ -6,8 +6,8 @@ use Rattle.rules.specs.Progression.{mth}
 use Rattle.rules.specs.Problems.{nameOf}
 use Rattle.laws.proofs.StepNumbers.{step-action, step-past}
 use Rattle.words.specs.Words.{tableOf}
-use Rattle.section.proofs.label_of.Statement.{statement}
-use Rattle.section.proofs.label_of.Tie as tie
+use Rattle.step_text.proofs.label_of.Statement.{statement}
+use Rattle.step_text.proofs.label_of.Tie as tie
 
 action-count-requires : tie.Need-action-count-requires
 action-count-requires c κs = search needs

@@ -11,8 +11,8 @@ use Rattle.template.specs.Sizes.{operatorBytes}
 use Rattle.template.specs.Templates.{Drawn}
 use Rattle.rows.specs.Rows.{Row}
 use Rattle.compose.specs.RowTexts.{rowText}
-use Rattle.section.specs.declared.Label.{Label}
-use Rattle.section.specs.declared.Composed.{Composed}
+use Rattle.step_text.specs.declared.Label.{Label}
+use Rattle.step_text.specs.declared.Composed.{Composed}
 
 -- The letter and the number of step i's name; the number is no higher than the step's.
 pub record Names (t : Table) (i : ℕ) (r : Label) : Type 0 where

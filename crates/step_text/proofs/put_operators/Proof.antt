@@ -1,9 +1,9 @@
 use borrow.Author.Needs.{needs}
 use native.Mathlib.Omega.{arith}
 use Rattle.text.proofs.AppendLaws.{appends-is}
-use Rattle.section.proofs.StepLaws.{step-few, step-drawn}
-use Rattle.section.proofs.put_operators.Statement.{statement}
-use Rattle.section.proofs.put_operators.Tie as tie
+use Rattle.step_text.proofs.StepLaws.{step-few, step-drawn}
+use Rattle.step_text.proofs.put_operators.Statement.{statement}
+use Rattle.step_text.proofs.put_operators.Tie as tie
 
 slice-aggregate-compose-step : tie.Need-slice-aggregate-compose-step
 slice-aggregate-compose-step c = search needs

@@ -1,9 +1,9 @@
 use borrow.Author.Needs.{needs}
 use mathlib.Core.Path.{_∙_}
 use Rattle.words.specs.Words.{tableOf}
-use Rattle.section.proofs.StepLaws.{step-fit, step-count, step-composed}
-use Rattle.section.proofs.compose_step.Statement.{statement}
-use Rattle.section.proofs.compose_step.Tie as tie
+use Rattle.step_text.proofs.StepLaws.{step-fit, step-count, step-composed}
+use Rattle.step_text.proofs.compose_step.Statement.{statement}
+use Rattle.step_text.proofs.compose_step.Tie as tie
 
 slice-aggregate-one-row : tie.Need-slice-aggregate-one-row
 slice-aggregate-one-row c = search needs

@@ -19,8 +19,8 @@ use Rattle.template.proofs.TemplateLaws.{drawn-is}
 use Rattle.rows.specs.Sizes.{rowWords, rowCells}
 use Rattle.rows.specs.Rows.{Row, rowAt, rowOf}
 use Rattle.compose.specs.RowTexts.{Fit, rowText}
-use Rattle.section.specs.declared.Composed.{Composed}
-use Rattle.section.specs.Operators.{rowTextAt, operatorTextAt, IsComposed}
+use Rattle.step_text.specs.declared.Composed.{Composed}
+use Rattle.step_text.specs.Operators.{rowTextAt, operatorTextAt, IsComposed}
 use Rattle.compose.proofs.FitLaws.{row-text, row-fit}
 
 -- What is asked of a row, for another number, in words of the code.

@@ -1,9 +1,9 @@
 use borrow.Author.Needs.{needs}
 use native.Mathlib.Omega.{arith}
 use Rattle.rows.specs.Rows.{rowAt}
-use Rattle.section.proofs.StepLaws.{fit-as, drawn-as}
-use Rattle.section.proofs.compose_row.Statement.{statement}
-use Rattle.section.proofs.compose_row.Tie as tie
+use Rattle.step_text.proofs.StepLaws.{fit-as, drawn-as}
+use Rattle.step_text.proofs.compose_row.Statement.{statement}
+use Rattle.step_text.proofs.compose_row.Tie as tie
 
 fact-count-requires : tie.Need-fact-count-requires
 fact-count-requires c κs = search needs
