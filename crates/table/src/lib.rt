@@ -1,13 +1,11 @@
 // Reads a table: a row of numbers, each checked against its range.
 use facts::Action;
+use header::Header;
+use header::OneHeader;
 use numbers::Num;
 use numbers::field;
-use rules::limits::MOST_ACTIONS;
 use rules::limits::MOST_COST;
-use rules::limits::MOST_FACTS;
-use rules::limits::MOST_METHODS;
 use rules::limits::MOST_SUBTASKS;
-use rules::limits::MOST_TASKS;
 use rules::reasons::BYTES_AFTER_TABLE;
 use rules::reasons::NOT_THERE;
 use rules::reasons::OUT_OF_RANGE;
@@ -16,16 +14,16 @@ use words::HEADER;
 use words::PER_ACTION;
 use words::PER_METHOD;
 ghost use mathlib.Core.Path.{_≡_};
-ghost use Prim.Native.Nat.{_+_, _-_, _*_, _≤_};
+ghost use Prim.Native.Nat.{_+_, _*_, _≤_};
 ghost use lib.ListN.{length};
 ghost use Rattle.basics.specs.Lists.{rows};
 ghost use Rattle.basics.specs.Readings.{many};
-ghost use Rattle.rules.specs.Limits.{mostFacts, mostTasks};
 ghost use Rattle.rules.specs.Reasons.{notThere};
 ghost use Rattle.rules.specs.Numbers.{ranged};
-ghost use Rattle.rules.specs.Tables.{allFacts, header, readAction, readMethod, decode};
+ghost use Rattle.rules.specs.Tables.{readAction, readMethod, decode};
 ghost use Rattle.words.specs.Words.{headerWords, perAction, perMethod, firstMethod, tableWords, headerOf, actionOf, cellOf, methodAt, methodOf, tableOf};
-ghost use Rattle.table.specs.Answers.{actOf, headerRead, headOf, startGoal, onwardOf, Reads};
+ghost use Rattle.header.specs.Answers.{headerRead};
+ghost use Rattle.table.specs.Answers.{actOf, onwardOf, Reads};
 
 enum OneAction {
     Got(Action, usize),
@@ -141,91 +139,6 @@ fn read_methods(s: &[u8], at: usize, words: &mut [u64], n: usize, lo: u64, hi: u
     Onward::To(p)
 }
 
-struct Header {
-    facts: u64,
-    actions: u64,
-    abstracts: u64,
-    methods: u64,
-    start: u64,
-    init: u64,
-    goal: u64,
-}
-
-enum OneHeader {
-    Got(Header, usize),
-    Bad(u64, usize),
-}
-
-// The greatest set of the first f facts.
-fn all_facts(f: u64) -> u64
-    requires { ⌜ f ≤ mostFacts ⌝ }
-    ensures { λ r. ⌜ r ≡ allFacts f ⌝ }
-{
-    if f == MOST_FACTS {
-        return 0xffff_ffff_ffff_ffff;
-    }
-    (1u64 << f) - 1
-}
-
-// The starting task, the start facts and the goal facts, after the counts.
-fn read_start_goal(
-    s: &[u8],
-    at: usize,
-    facts: u64,
-    actions: u64,
-    abstracts: u64,
-    methods: u64,
-) -> OneHeader
-    requires { ⌜ (facts ≤ mostFacts) × (1 ≤ abstracts) × (actions + abstracts ≤ mostTasks) ⌝ }
-    ensures { λ r. ⌜ headOf r ≡ startGoal (now (s .entry)) facts actions abstracts methods at ⌝ }
-{
-    match field(s, at, actions, actions + abstracts - 1, NOT_THERE) {
-        Num::Bad(why, p) => OneHeader::Bad(why, p),
-        Num::Got(start, p1) => {
-            let top = all_facts(facts);
-            match field(s, p1, 0, top, NOT_THERE) {
-                Num::Bad(why, p) => OneHeader::Bad(why, p),
-                Num::Got(init, p2) => match field(s, p2, 0, top, NOT_THERE) {
-                    Num::Bad(why, p) => OneHeader::Bad(why, p),
-                    Num::Got(goal, p3) => OneHeader::Got(
-                        Header {
-                            facts,
-                            actions,
-                            abstracts,
-                            methods,
-                            start,
-                            init,
-                            goal,
-                        },
-                        p3,
-                    ),
-                },
-            }
-        }
-    }
-}
-
-// The first seven numbers: the counts, then the rest.
-fn read_header(s: &[u8]) -> OneHeader
-    ensures { λ r. ⌜ headOf r ≡ header (now (s .entry)) 0 ⌝ }
-{
-    match field(s, 0, 0, MOST_FACTS, OUT_OF_RANGE) {
-        Num::Bad(why, p) => OneHeader::Bad(why, p),
-        Num::Got(facts, p1) => match field(s, p1, 0, MOST_ACTIONS, OUT_OF_RANGE) {
-            Num::Bad(why, p) => OneHeader::Bad(why, p),
-            Num::Got(actions, p2) => match field(s, p2, 1, MOST_TASKS - actions, OUT_OF_RANGE) {
-                Num::Bad(why, p) => OneHeader::Bad(why, p),
-                Num::Got(abstracts, p3) => match field(s, p3, 0, MOST_METHODS, OUT_OF_RANGE) {
-                    Num::Bad(why, p) => OneHeader::Bad(why, p),
-                    Num::Got(methods, p4) => {
-                        read_start_goal(s, p4, facts, actions, abstracts, methods)
-                    }
-                },
-            },
-        },
-    }
-}
-
 // The header, into its words.
 fn put_header(words: &mut [u64], h: Header)
     requires { ⌜ headerWords ≤ length (now words) ⌝ }
@@ -250,13 +163,13 @@ pub fn read_table(s: &[u8], words: &mut [u64]) -> Onward
     requires { ⌜ tableWords ≤ length (now words) ⌝ }
     ensures { λ r. ⌜ onwardOf r (tableOf (now (words .exit))) ≡ decode (now (s .entry)) ⌝ }
 {
-    match read_header(s) {
+    match header::read_header(s) {
         OneHeader::Bad(why, q) => {
             return Onward::Bad(why, q);
         }
         OneHeader::Got(h, next) => {
             put_header(words, h);
-            let top = all_facts(h.facts);
+            let top = header::all_facts(h.facts);
             match read_actions(s, next, words, h.actions as usize, top) {
                 Onward::Bad(why, q) => {
                     return Onward::Bad(why, q);

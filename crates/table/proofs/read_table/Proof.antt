@@ -5,7 +5,8 @@ use Rattle.basics.specs.Readings.{got}
 use Rattle.rules.specs.Tables.{Table, decode, closed}
 use Rattle.basics.specs.Lists.{rows}
 use Rattle.words.specs.Words.{actionOf, methodOf}
-use Rattle.table.specs.Answers.{headerRead, headOf, onwardOf}
+use Rattle.header.specs.Answers.{headerRead, headOf}
+use Rattle.table.specs.Answers.{onwardOf}
 use Rattle.table.specs.declared.Onward.{Onward}
 use Rattle.laws.proofs.AnswerLaws.{via}
 use Rattle.table.proofs.WordLaws.{table-held}

@@ -2,11 +2,11 @@ use native.Mathlib.Omega.{arith}
 use Rattle.rules.specs.Tables.{header}
 use Rattle.laws.proofs.NumberLaws.{ranged-got}
 use Rattle.numbers.specs.Answers.{numOf}
-use Rattle.table.specs.Answers.{startGoal}
+use Rattle.header.specs.Answers.{startGoal}
 use Rattle.laws.proofs.AnswerLaws.{via}
 use borrow.Author.Needs.{needs}
-use Rattle.table.proofs.read_header.Statement.{statement}
-use Rattle.table.proofs.read_header.Tie as tie
+use Rattle.header.proofs.read_header.Statement.{statement}
+use Rattle.header.proofs.read_header.Tie as tie
 
 field-requires : tie.Need-field-requires
 field-requires c κs = search needs

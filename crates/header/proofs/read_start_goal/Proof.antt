@@ -1,9 +1,9 @@
 use Rattle.numbers.specs.Answers.{numOf}
-use Rattle.table.specs.Answers.{startGoal}
+use Rattle.header.specs.Answers.{startGoal}
 use Rattle.laws.proofs.AnswerLaws.{via}
 use borrow.Author.Needs.{needs}
-use Rattle.table.proofs.read_start_goal.Statement.{statement}
-use Rattle.table.proofs.read_start_goal.Tie as tie
+use Rattle.header.proofs.read_start_goal.Statement.{statement}
+use Rattle.header.proofs.read_start_goal.Tie as tie
 
 add-field : tie.Need-add-field
 add-field c = search needs

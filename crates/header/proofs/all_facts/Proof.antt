@@ -4,8 +4,8 @@ use native.Mathlib.Omega.{arith}
 use lib.Pow.{pow-pos}
 use Rattle.laws.proofs.NumberLaws.{shl-one}
 use borrow.Author.Needs.{needs}
-use Rattle.table.proofs.all_facts.Statement.{statement}
-use Rattle.table.proofs.all_facts.Tie as tie
+use Rattle.header.proofs.all_facts.Statement.{statement}
+use Rattle.header.proofs.all_facts.Tie as tie
 
 returns : tie.Need-returns
 returns c = ap (λ (n : ℕ). 2 ^ n - 1) (sym (c .if1 .taken))
