@@ -11,9 +11,9 @@ use Rattle.rules.specs.Sections.{problemText}
 use Rattle.rules.specs.Programs.{refusedLine, told, asItIs, emitInput, emitOutput}
 use Rattle.words.specs.Words.{tableOf}
 use Rattle.text.specs.Appends.{Appends}
-use Rattle.report.specs.Parts.{Moves, Says, Sent, Follow}
+use Rattle.report.specs.Parts.{nextOf, sizeOf, Moves, Says, Sent, Follow}
 use Rattle.report.specs.declared.Part.{Part}
-use Rattle.report.proofs.PartLaws.{sent, joined, only-part}
+use Rattle.report.proofs.PartLaws.{sent, joined, only-part, part-says, part-moves}
 use Rattle.parts.specs.Pieces.{Ready}
 use Rattle.parts.proofs.PieceLaws.{problem-pieces}
 use Rattle.emission.specs.Jobs.{pieceOf, pieceCount, TableHeld, Stands, Does}
@@ -29,14 +29,18 @@ stands-held (Refusal number place) w figures h = tt
 abbrev pub PartOf : Table → ℕ → List ℕ → List ℕ → Part → Job → Type 0
 PartOf t next old new r j = Says (pieceOf j t) next new r × (Moves (pieceCount j t) next new r × (length new ≡ length old))
 
-pub refused-part : (t : Table) (next size : ℕ) (old new : List ℕ) (j : Job) (number place : ℕ) → j ≡ Refusal number place → next < pieceCount j t
+pub refused-part : (t : Table) (next size : ℕ) (old new : List ℕ) (r : Part) (j : Job) (number place : ℕ) → j ≡ Refusal number place
+    → next < pieceCount j t
     → Appends old 0 (refusedLine number place) new size
     → size ≤ length old
-    → PartOf t next old new (record { next = 1; size = size }) j
-refused-part t next size old new j number place e h w l =
+    → (nextOf r ≡ 1) × (sizeOf r ≡ size)
+    → PartOf t next old new r j
+refused-part t next size old new r j number place e h w l p =
     let low : next < 1 = subst (λ (k : Job). next < pieceCount k t) e h in
-    subst (PartOf t next old new (record { next = 1; size = size })) (sym e)
-    (only-part (refusedLine number place) next size low w, (record { some = low; most = omega arith; size = omega (arith, w .size) }, w .size))
+    subst (PartOf t next old new r) (sym e) (
+      part-says (λ _. refusedLine number place) next 1 size new r p (only-part (refusedLine number place) next size low w),
+      (part-moves 1 next 1 size new r p low (omega arith) (omega (arith, w .size)), w .size),
+    )
 
 -- What an input's job writes, by what the opening of its table came to.
 module _ (s w figures : List ℕ) where

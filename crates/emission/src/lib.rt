@@ -6,11 +6,12 @@ ghost use lib.ListN.{length};
 ghost use Rattle.rules.specs.Programs.{emitOutput};
 ghost use Rattle.words.specs.Words.{tableWords, tableOf};
 ghost use Rattle.template.specs.Sizes.{figureBytes};
-ghost use Rattle.report.specs.Inputs.{mostEmitInput, ReadFrom};
+ghost use Rattle.report.specs.Inputs.{mostEmitInput, countOf, ReadFrom};
 ghost use Rattle.report.specs.Parts.{Moves, Says};
 ghost use Rattle.parts.specs.Sizes.{partBytes};
 ghost use Rattle.emission.specs.Jobs.{pieceOf, pieceCount, TableHeld, Stands, Does};
 use opening::Opening;
+use report::Input;
 use report::Part;
 use template::FIGURE_BYTES;
 
@@ -24,12 +25,12 @@ enum Job {
 }
 
 // What the program does with what it has read into the buffer.
-pub fn answer(buffer: &[u8], n: usize)
-    requires { ⌜ (mostEmitInput ≤ length (now buffer)) × (n ≤ length (now buffer)) ⌝ }
+pub fn answer(buffer: &[u8], input: Input)
+    requires { ⌜ (mostEmitInput ≤ length (now buffer)) × (countOf input ≤ length (now buffer)) ⌝ }
 {
     let mut words = [0u64; words::SIZE];
     let mut figures = [0u8; FIGURE_BYTES];
-    let job = open_read(buffer, n, &mut words, &mut figures);
+    let job = open_read(buffer, input, &mut words, &mut figures);
     let mut out = parts::space();
     send_parts(job, &words, &figures, &mut out);
 }
@@ -42,18 +43,18 @@ fn send_parts(job: Job, words: &[u64], figures: &[u8], out: &mut [u8])
     let mut next = 0;
     while next < parts {
         let part = put_part(job, words, figures, next, out);
-        report::send(out, part.size);
-        next = part.next;
+        next = report::send(out, part);
     }
 }
 
 // The job of the input from which the buffer was filled.
-fn open_read(buffer: &[u8], n: usize, words: &mut [u64], figures: &mut [u8]) -> Job
-    requires { ⌜ (mostEmitInput ≤ length (now buffer)) × (n ≤ length (now buffer)) ⌝ }
+fn open_read(buffer: &[u8], input: Input, words: &mut [u64], figures: &mut [u8]) -> Job
+    requires { ⌜ (mostEmitInput ≤ length (now buffer)) × (countOf input ≤ length (now buffer)) ⌝ }
     requires { ⌜ (tableWords ≤ length (now words)) × (figureBytes ≤ length (now figures)) ⌝ }
-    ensures { λ r. ⌜ ((s : List ℕ) → ReadFrom s (now (buffer .entry)) n → Does (emitOutput s) r (now (words .exit)) (now (figures .exit))) ⌝ }
+    ensures { λ r. ⌜ ((s : List ℕ) → ReadFrom s (now (buffer .entry)) input → Does (emitOutput s) r (now (words .exit)) (now (figures .exit))) ⌝ }
     ensures { λ r. ⌜ Stands r (now (words .exit)) (now (figures .exit)) ⌝ }
 {
+    let n = report::count(input);
     open(&buffer[..n], words, figures)
 }
 
@@ -94,7 +95,7 @@ fn put_part(job: Job, words: &[u64], figures: &[u8], next: usize, out: &mut [u8]
     match job {
         Job::Refusal(number, place) => {
             let size = report::refused(out, number, place);
-            Part { next: 1, size }
+            report::part_of(1, size)
         }
         Job::Problem(bound, form) => parts::put_problem(words, bound, form, figures, next, out),
     }

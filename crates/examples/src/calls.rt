@@ -60,7 +60,7 @@ pub fn section(input: &[u8]) {
     let after = text::put(&mut text, 0, b"before\n") + report::smaller(length, 4000);
     let end = text::put(&mut text, after, b"after\n");
     ildorzhen_section_write(bound, form, table, index, &mut text, 7);
-    report::send(&text, end);
+    report::send_text(&text, end);
 }
 
 // Bound, form, index, place, room, table: all that the calls for that section hand back, in so many bytes of text.

@@ -5,7 +5,7 @@ ghost use lib.ListN.{length};
 pub fn refusal(number: u64, place: u64) {
     let mut line = [0u8; 80];
     let size = report::refused(&mut line, number, place);
-    report::send(&line, size);
+    report::send_text(&line, size);
 }
 
 // A short text and a number.
@@ -15,7 +15,7 @@ pub fn field(word: &[u8], n: u64)
     let mut line = [0u8; 40];
     let next = text::put(&mut line, 0, word);
     let size = text::put_number(&mut line, next, n);
-    report::send(&line, size);
+    report::send_text(&line, size);
 }
 
 // The refusal, or the value under its name, as one line.
@@ -27,7 +27,7 @@ pub fn answer(name: &[u8], number: u64, place: u64, value: u64)
         return;
     }
     field(name, value);
-    report::send(b"\n", 1);
+    report::send_text(b"\n", 1);
 }
 
 fn spaced(n: u64) {
@@ -36,9 +36,9 @@ fn spaced(n: u64) {
 
 // A name and numbers, as one line.
 pub fn numbers(name: &[u8], numbers: &[u64]) {
-    report::send(name, name.len());
+    report::send_text(name, name.len());
     number_fields(numbers);
-    report::send(b"\n", 1);
+    report::send_text(b"\n", 1);
 }
 
 fn number_fields(numbers: &[u64]) {
@@ -51,9 +51,9 @@ fn number_fields(numbers: &[u64]) {
 
 // A step list, word by word, as one line.
 pub fn steps(bytes: &[u8]) {
-    report::send(b"steps", 5);
+    report::send_text(b"steps", 5);
     words(bytes);
-    report::send(b"\n", 1);
+    report::send_text(b"\n", 1);
 }
 
 fn words(bytes: &[u8]) {

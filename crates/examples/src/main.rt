@@ -45,7 +45,7 @@ fn show(kind: u8, input: &[u8]) {
         b'n' => calls::sections(input),
         b'r' => calls::section_in(input),
         b's' => calls::section(input),
-        b't' => report::send(input, input.len()),
+        b't' => report::send_text(input, input.len()),
         _ => calls::with_plan(kind, input),
     }
 }

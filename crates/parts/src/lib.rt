@@ -41,17 +41,14 @@ pub fn put_problem(
 {
     if next == 0 {
         let size = put_front(words, bound, form, out);
-        return Part { next: 1, size };
+        return report::part_of(1, size);
     }
     let steps = step_count(words);
     if next <= steps {
         return fill(words, bound, form, figures, next, out);
     }
     let size = text::put(out, 0, b"0\n");
-    Part {
-        next: steps + 2,
-        size,
-    }
+    report::part_of(steps + 2, size)
 }
 
 pub fn step_count(words: &[u64]) -> usize
@@ -99,10 +96,10 @@ fn fill(words: &[u64], bound: u64, form: u64, figures: &[u8], from: usize, out: 
     let mut size = 0;
     while next <= steps {
         if room < size {
-            return Part { next, size };
+            return report::part_of(next, size);
         }
         size = step_text::put_operators(words, bound, form, next - 1, figures, out, size);
         next += 1;
     }
-    Part { next, size }
+    report::part_of(next, size)
 }

@@ -21,7 +21,8 @@ use Rattle.rules.specs.Programs.{boundIn, formIn, sizeIn, checkInput, checkOutp
 use Rattle.laws.proofs.AnswerLaws.{check-passed, refused}
 use Rattle.laws.proofs.RefusalLaws.{table-long, plan-long}
 use Rattle.theorems.proofs.Demand3.{opened-given}
-use Rattle.report.specs.Inputs.{mostSize, mostCheckInput, mostEmitInput, ReadFrom}
+use Rattle.report.specs.declared.Input.{Input}
+use Rattle.report.specs.Inputs.{mostSize, mostCheckInput, mostEmitInput, countOf, ReadFrom}
 
 drop-cut : (a n : ℕ) (l : List ℕ) → drop a (take (a + n) l) ≡ take n (drop a l)
 drop-cut zero n l = ap (λ (k : ℕ). take k l) (zero-add n)
@@ -125,13 +126,13 @@ module _ (s : List ℕ) (n : ℕ) where
         ]
 
 -- What has been read into a buffer that is large enough gets the input's answer.
-module _ (s buffer : List ℕ) (n : ℕ) (r : ReadFrom s buffer n) where
-  pub emit-read : mostEmitInput ≤ length buffer → emitOutput (take n buffer) ≡ emitOutput s
+module _ (s buffer : List ℕ) (n : Input) (r : ReadFrom s buffer n) where
+  pub emit-read : mostEmitInput ≤ length buffer → emitOutput (take (countOf n) buffer) ≡ emitOutput s
   unfolding emitOutput
   emit-read h = ap (told asItIs) (ap emitInput r ∙ emit-cut s (length buffer) h)
 
-  pub check-read : mostCheckInput ≤ length buffer → sizeIn (take n buffer) ≤ mostSize → checkOutput (take n buffer) ≡ checkOutput s
+  pub check-read : mostCheckInput ≤ length buffer → sizeIn (take (countOf n) buffer) ≤ mostSize → checkOutput (take (countOf n) buffer) ≡ checkOutput s
   unfolding checkOutput
   check-read h low =
-      let same : sizeIn (take n buffer) ≡ sizeIn s = ap sizeIn r ∙ size-cut s (length buffer) h in
+      let same : sizeIn (take (countOf n) buffer) ≡ sizeIn s = ap sizeIn r ∙ size-cut s (length buffer) h in
       ap (told acceptedLine) (ap checkInput r ∙ check-cut s (length buffer) h (omega (arith, same, low)))

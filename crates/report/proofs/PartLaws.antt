@@ -1,12 +1,13 @@
 -- Parts that follow one another join to the whole.
-use Prim.Native.Nat.{ℕ, zero, suc, _<_}
+use Prim.Native.Nat.{ℕ, zero, suc, _≤_, _<_}
 use mathlib.Core.Path.{_≡_, sym, ap, _∙_}
 use mathlib.Core.List.{List, [], _∷_, _++_, map, append-assoc, append-nil}
 use native.Mathlib.Omega.{arith}
-use lib.ListN.{take}
+use lib.ListN.{length, take}
 use Rattle.basics.specs.Lists.{upto, concat}
 use Rattle.text.specs.Appends.{Appends}
-use Rattle.report.specs.Parts.{Sent, Follow}
+use Rattle.report.specs.declared.Part.{Part}
+use Rattle.report.specs.Parts.{nextOf, sizeOf, Moves, Says, Sent, Follow}
 
 -- What was sent.
 abbrev pub sent : List Sent → List ℕ
@@ -29,3 +30,13 @@ pub only-part : (x : List ℕ) {old new : List ℕ} (next size : ℕ) → next <
 unfolding upto
 only-part x zero size h w = sym (w .text)
 only-part x (suc n) size h w = absurd (omega arith)
+
+-- What a part says, and how it moves, by its two numbers.
+pub part-says : (f : ℕ → List ℕ) (from n size : ℕ) (out : List ℕ) (r : Part) → (nextOf r ≡ n) × (sizeOf r ≡ size)
+    → upto f n ≡ upto f from ++ take size out
+    → Says f from out r
+part-says f from n size out r e w = rw (e .0, e .1) w
+
+pub part-moves : (all from n size : ℕ) (out : List ℕ) (r : Part) → (nextOf r ≡ n) × (sizeOf r ≡ size) → from < n → n ≤ all → size ≤ length out
+    → Moves all from out r
+part-moves all from n size out r e h k l = record { some = omega (arith, e .0); most = omega (arith, e .0); size = omega (arith, e .1) }

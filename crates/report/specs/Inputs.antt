@@ -4,6 +4,7 @@ use mathlib.Core.Path.{_≡_}
 use mathlib.Core.List.{List}
 use lib.ListN.{length, take}
 use Rattle.rules.specs.Limits.{mostTableBytes, mostPlanBytes}
+use Rattle.report.specs.declared.Input.{Input}
 
 -- What a table's two bytes of length can name.
 abbrev pub mostSize : ℕ
@@ -17,6 +18,10 @@ mostCheckInput = 4 + mostTableBytes + mostPlanBytes + 1
 abbrev pub mostEmitInput : ℕ
 mostEmitInput = 2 + mostTableBytes + 1
 
--- Of an input, n bytes stand at the start of the buffer: all of them, or as many as it holds.
-abbrev pub ReadFrom : List ℕ → List ℕ → ℕ → Type 0
-ReadFrom input buffer n = take n buffer ≡ take (length buffer) input
+-- How many bytes have been read.
+abbrev pub countOf : Input → ℕ
+countOf r = r .count
+
+-- Of an input, so many bytes stand at the start of the buffer: all of them, or as many as it holds.
+abbrev pub ReadFrom : List ℕ → List ℕ → Input → Type 0
+ReadFrom input buffer r = take (countOf r) buffer ≡ take (length buffer) input

@@ -6,15 +6,22 @@ use lib.ListN.{length, take}
 use Rattle.basics.specs.Lists.{upto}
 use Rattle.report.specs.declared.Part.{Part}
 
+-- The piece that comes after a part, and how many bytes the part has.
+abbrev pub nextOf : Part → ℕ
+nextOf r = r .next
+
+abbrev pub sizeOf : Part → ℕ
+sizeOf r = r .size
+
 -- The part that stands at the start of `out` begins with piece `from`, and has one piece or more, of n in all.
 pub record Moves (n from : ℕ) (out : List ℕ) (r : Part) : Type 0 where
-  pub some : from < r .next
-  pub most : r .next ≤ n
-  pub size : r .size ≤ length out
+  pub some : from < nextOf r
+  pub most : nextOf r ≤ n
+  pub size : sizeOf r ≤ length out
 
 -- It says these pieces.
 abbrev pub Says : (ℕ → List ℕ) → ℕ → List ℕ → Part → Type 0
-Says f from out r = upto f (r .next) ≡ upto f from ++ take (r .size) out
+Says f from out r = upto f (nextOf r) ≡ upto f from ++ take (sizeOf r) out
 
 -- A part's text, and the piece that comes after it.
 pub record Sent : Type 0 where

@@ -7,16 +7,53 @@ ghost use Rattle.basics.specs.Texts.{digits};
 ghost use Rattle.rules.specs.Programs.{acceptedLine, refusedLine};
 ghost use Rattle.text.specs.Appends.{Appends};
 ghost use Rattle.report.specs.Reports.{wordRoom, lineRoom};
-ghost use Rattle.report.specs.Inputs.{mostSize};
+ghost use Rattle.report.specs.Inputs.{mostSize, countOf, ReadFrom};
+ghost use Rattle.report.specs.Parts.{nextOf, sizeOf};
+use libc::STDIN_FILENO;
 use libc::STDOUT_FILENO;
 
 // Room for a line. The contracts say it by the name of specs/Reports.
 pub const LINE_ROOM: usize = 80;
 
+// What a program has read: how many bytes. Only this crate makes one, so that no one else can say that there were fewer.
+pub struct Input {
+    count: usize,
+}
+
 // A part of what a program writes, at the start of a text: the piece that comes after it, and how many bytes it has.
 pub struct Part {
-    pub next: usize,
-    pub size: usize,
+    next: usize,
+    size: usize,
+}
+
+// Standard input, as much as the buffer holds.
+pub fn read(buffer: &mut [u8]) -> Input
+    ensures { λ r. ⌜ countOf r ≤ length (now (buffer .exit)) ⌝ }
+{
+    let count = io::read_full(STDIN_FILENO, buffer);
+    Input { count }
+}
+
+// Other bytes, put into the buffer as they would have been read.
+pub fn copied(bytes: &[u8], buffer: &mut [u8]) -> Input
+    ensures { λ r. ⌜ ReadFrom (now (bytes .entry)) (now (buffer .exit)) r ⌝ }
+    ensures { λ r. ⌜ (countOf r ≤ length (now (buffer .exit))) × (length (now (buffer .exit)) ≡ length (now (buffer .entry))) ⌝ }
+{
+    let count = smaller(buffer.len(), bytes.len());
+    text::copy(buffer, 0, &bytes[..count]);
+    Input { count }
+}
+
+pub fn count(input: Input) -> usize
+    ensures { λ r. ⌜ r ≡ countOf input ⌝ }
+{
+    input.count
+}
+
+pub fn part_of(next: usize, size: usize) -> Part
+    ensures { λ r. ⌜ (nextOf r ≡ next) × (sizeOf r ≡ size) ⌝ }
+{
+    Part { next, size }
 }
 
 // A byte that the input lacks reads as 0.
@@ -76,8 +113,17 @@ pub fn refused(out: &mut [u8], number: u64, place: u64) -> usize
 }
 
 // The first bytes of a text, to standard output.
-pub fn send(text: &[u8], count: usize)
+pub fn send_text(text: &[u8], count: usize)
     requires { ⌜ count ≤ length (now text) ⌝ }
 {
     io::write_all(STDOUT_FILENO, &text[0..count]);
+}
+
+// A part, from the text that it stands in; what comes after it.
+pub fn send(text: &[u8], part: Part) -> usize
+    requires { ⌜ sizeOf part ≤ length (now text) ⌝ }
+    ensures { λ r. ⌜ r ≡ nextOf part ⌝ }
+{
+    send_text(text, part.size);
+    part.next
 }

@@ -7,8 +7,9 @@ ghost use Rattle.rules.specs.Checks.{verdictOf};
 ghost use Rattle.rules.specs.Programs.{sizeIn, checkInput, checkOutput};
 ghost use Rattle.text.specs.Appends.{Appends};
 ghost use Rattle.report.specs.Reports.{lineRoom};
-ghost use Rattle.report.specs.Inputs.{mostSize, mostCheckInput, ReadFrom};
+ghost use Rattle.report.specs.Inputs.{mostSize, mostCheckInput, countOf, ReadFrom};
 ghost use Rattle.report.specs.Parts.{Moves, Says};
+use report::Input;
 use report::Part;
 use rules::Verdict;
 use rules::limits::MOST_PLAN_BYTES;
@@ -21,34 +22,34 @@ pub const MOST_INPUT: usize = 4 + MOST_TABLE_BYTES + MOST_PLAN_BYTES + 1;
 const PARTS: usize = 1;
 
 // What the program does with what it has read into the buffer.
-pub fn answer(buffer: &[u8], n: usize)
-    requires { ⌜ (mostCheckInput ≤ length (now buffer)) × (n ≤ length (now buffer)) ⌝ }
+pub fn answer(buffer: &[u8], input: Input)
+    requires { ⌜ (mostCheckInput ≤ length (now buffer)) × (countOf input ≤ length (now buffer)) ⌝ }
 {
     let mut out = [0u8; report::LINE_ROOM];
-    send_parts(buffer, n, &mut out);
+    send_parts(buffer, input, &mut out);
 }
 
 // Each part is sent as it is handed over.
-fn send_parts(buffer: &[u8], n: usize, out: &mut [u8])
-    requires { ⌜ (mostCheckInput ≤ length (now buffer)) × (n ≤ length (now buffer)) × (lineRoom ≤ length (now out)) ⌝ }
+fn send_parts(buffer: &[u8], input: Input, out: &mut [u8])
+    requires { ⌜ (mostCheckInput ≤ length (now buffer)) × (countOf input ≤ length (now buffer)) × (lineRoom ≤ length (now out)) ⌝ }
 {
     let mut next = 0;
     while next < PARTS {
-        let part = put_part(buffer, n, next, out);
-        report::send(out, part.size);
-        next = part.next;
+        let part = put_part(buffer, input, next, out);
+        next = report::send(out, part);
     }
 }
 
 // The next part of what is written of the input from which the buffer was filled.
-fn put_part(buffer: &[u8], n: usize, next: usize, out: &mut [u8]) -> Part
-    requires { ⌜ (mostCheckInput ≤ length (now buffer)) × (n ≤ length (now buffer)) × (lineRoom ≤ length (now out)) × (next < 1) ⌝ }
-    ensures { λ r. ⌜ ((s : List ℕ) → ReadFrom s (now (buffer .entry)) n → Says (λ _. checkOutput s) next (now (out .exit)) r) ⌝ }
+fn put_part(buffer: &[u8], input: Input, next: usize, out: &mut [u8]) -> Part
+    requires { ⌜ (mostCheckInput ≤ length (now buffer)) × (countOf input ≤ length (now buffer)) × (lineRoom ≤ length (now out)) × (next < 1) ⌝ }
+    ensures { λ r. ⌜ ((s : List ℕ) → ReadFrom s (now (buffer .entry)) input → Says (λ _. checkOutput s) next (now (out .exit)) r) ⌝ }
     ensures { λ r. ⌜ Moves 1 next (now (out .exit)) r ⌝ }
     ensures { λ _. ⌜ length (now (out .exit)) ≡ length (now (out .entry)) ⌝ }
 {
+    let n = report::count(input);
     let size = put_line(&buffer[..n], out);
-    Part { next: PARTS, size }
+    report::part_of(PARTS, size)
 }
 
 // The line that says what the check of the input comes to.

@@ -15,6 +15,9 @@ enum-known-job c = search needs
 refused-requires : tie.Need-refused-requires
 refused-requires c κs = search needs
 
+part-of-requires : tie.Need-part-of-requires
+part-of-requires c κs = search needs
+
 enum-known-job-2 : tie.Need-enum-known-job-2
 enum-known-job-2 c = search needs
 
@@ -33,9 +36,10 @@ same-length c = search needs
 
 returns : tie.Need-returns
 returns c =
-    let s = c .before .before .before .before .before .before .before .before .before .before in
-    let w = c .before .before .refused .ensures in
-    refused-part (tableOf (s .args .words .now)) (s .args .next) _ _ _ (s .args .job) _ _ (c .before .before .before .before .before .job .given .1) (s .pre .2) (w .0) (omega (arith, w .1, s .pre .1))
+    let s = c .before .before .before .before .before .before .before .before .before .before .before in
+    let w = c .before .before .before .refused .ensures in
+    refused-part (tableOf (s .args .words .now)) (s .args .next) _ _ _ _ (s .args .job) _ _ (c .before .before .before .before .before .before .job .given .1) (s .pre .2) (w .0)
+    (omega (arith, w .1, s .pre .1)) (c .part-of .ensures)
 
 same-length-2 : tie.Need-same-length-2
 same-length-2 c = search needs
@@ -51,6 +55,7 @@ put-part-spec =
     (tie.spec
     enum-known-job
     refused-requires
+    part-of-requires
     enum-known-job-2
     put-problem-requires
     same-length

@@ -10,6 +10,7 @@ use Rattle.text.proofs.AppendLaws.{appends-is}
 use Rattle.template.specs.Sizes.{stepTextBytes}
 use Rattle.parts.specs.Pieces.{problemPiece}
 use Rattle.parts.proofs.PieceLaws.{part-more, piece-of-step}
+use Rattle.report.proofs.PartLaws.{part-says, part-moves}
 use borrow.Author.Needs.{needs}
 use Rattle.parts.proofs.fill.Statement.{statement}
 use Rattle.parts.proofs.fill.Tie as tie
@@ -31,13 +32,17 @@ sub-room c = search needs
 loop-holds : tie.Need-loop-holds Inv-loop μ-loop
 loop-holds c = (search needs, search needs, search needs, search needs, search needs, sym (append-nil _))
 
+part-of-requires : tie.Need-part-of-requires Inv-loop μ-loop
+part-of-requires c κs = search needs
+
 same-length : tie.Need-same-length Inv-loop μ-loop
 same-length c = search needs
 
 returns : tie.Need-returns Inv-loop μ-loop
 returns c =
-    let l = c .before .before .loop in
-    (l .inv .5, (record { some = omega arith; most = omega arith; size = l .inv .3 }, l .inv .4))
+    let l = c .before .before .before .loop in
+    let r = c .part-of .ensures in
+    (part-says _ _ _ _ _ _ r (l .inv .5), (part-moves _ _ _ _ _ _ r (omega arith) (omega arith) (l .inv .3), l .inv .4))
 
 sub-put-operators : tie.Need-sub-put-operators Inv-loop μ-loop
 sub-put-operators c = search needs
@@ -71,13 +76,17 @@ loop-again c =
       part-more _ _ _ _ _ _ _ (l .loop .inv .5) (appends-is step (w .0)),
     )
 
+part-of-requires-2 : tie.Need-part-of-requires-2 Inv-loop μ-loop
+part-of-requires-2 c κs = search needs
+
 same-length-2 : tie.Need-same-length-2 Inv-loop μ-loop
 same-length-2 c = search needs
 
 returns-2 : tie.Need-returns-2 Inv-loop μ-loop
 returns-2 c =
-    let l = c .before .loop in
-    (l .inv .5, (record { some = omega arith; most = omega arith; size = l .inv .3 }, l .inv .4))
+    let l = c .before .before .loop in
+    let r = c .part-of2 .ensures in
+    (part-says _ _ _ _ _ _ r (l .inv .5), (part-moves _ _ _ _ _ _ r (omega arith) (omega arith) (l .inv .3), l .inv .4))
 
 pub fill-spec : {M : Type 1} → statement M
 fill-spec =
@@ -88,6 +97,7 @@ fill-spec =
     step-count-requires
     sub-room
     loop-holds
+    part-of-requires
     same-length
     returns
     sub-put-operators
@@ -95,5 +105,6 @@ fill-spec =
     add-next
     loop-less
     loop-again
+    part-of-requires-2
     same-length-2
     returns-2)
