@@ -1,4 +1,4 @@
--- What a writer does that writes where there is room, and only counts where there is none.
+-- What a writer does that counts, and writes where there is room; where there is none, nothing is said of the bytes but their number.
 use Prim.Native.Nat.{ℕ, _+_, _≤_}
 use mathlib.Core.Path.{_≡_}
 use mathlib.Core.List.{List}
