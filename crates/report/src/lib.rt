@@ -15,12 +15,12 @@ use libc::STDOUT_FILENO;
 // Room for a line. The contracts say it by the name of specs/Reports.
 pub const LINE_ROOM: usize = 80;
 
-// What a program has read: how many bytes. Only this crate makes one, so that no one else can say that there were fewer.
+// What a program has read: how many bytes. Its field is private, so that a program hands it on as it is.
 pub struct Input {
     count: usize,
 }
 
-// A part of what a program writes, at the start of a text: the piece that comes after it, and how many bytes it has.
+// A part of what a program writes, at the start of a text: the piece that comes after it, and how many bytes it has. Private as well.
 pub struct Part {
     next: usize,
     size: usize,
