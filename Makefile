@@ -18,8 +18,9 @@ OUT := target/c
 OBJ := $(OUT)/obj
 ARCHIVE := target/libildorzhen.a
 HEADERS := include/ildorzhen.h $(wildcard c/*.h c/*/*.h)
-PLAIN := $(addprefix $(OBJ)/plain/,table.o operators.o least.o plan.o text.o)
-COMPARE := $(addprefix $(OBJ)/,compare.o compare/generate.o compare/plans.o)
+PLAIN := $(addprefix $(OBJ)/plain/,table.o operators.o least.o plan.o text.o search.o)
+DRAWN := $(addprefix $(OBJ)/compare/,generate.o plans.o)
+COMPARE := $(addprefix $(OBJ)/,compare.o compare/tally.o compare/search.o) $(DRAWN)
 
 .PHONY: march compare bench test archive header programs help
 
@@ -51,18 +52,18 @@ header:
 	c/check/run
 	c/check/wrong
 
-## compare   every call against document 01 in plain C, on generated inputs
+## compare   every call against documents 01 and 02 in plain C, on generated inputs
 compare: header $(OUT)/compare
 	$(RUN) $(OUT)/compare
 
 ## bench     x86-64 instructions of each job, the library's against the plain C's
-bench: $(OUT)/bench-ours $(OUT)/bench-plain $(OUT)/plain-emit $(OUT)/plain-verify programs
-	c/bench/run $(QEMU) $(LOADER) $(LIB) $(OUT)/bench-ours $(OUT)/bench-plain \
-	    target/bin/emit $(OUT)/plain-emit target/bin/verify $(OUT)/plain-verify
+bench: $(addprefix $(OUT)/,bench-ours bench-plain bench-searches plain-emit plain-verify plain-find) programs
+	c/bench/run $(QEMU) $(LOADER) $(LIB) $(OUT)/bench-ours $(OUT)/bench-plain $(OUT)/bench-searches \
+	    target/bin/emit $(OUT)/plain-emit target/bin/verify $(OUT)/plain-verify target/bin/find $(OUT)/plain-find
 
-## programs  target/bin/verify and target/bin/emit, proved and run on their stored input
+## programs  target/bin/verify, target/bin/emit and target/bin/find, proved and run on their stored input
 programs:
-	rt check verify emit
+	rt check verify emit find
 
 ## help      this list
 help:
@@ -79,6 +80,9 @@ $(OUT)/bench-ours: $(OBJ)/bench/ours.o archive
 	$(LINK) -o $@ $(BEFORE) $< $(ARCHIVE) $(AFTER)
 
 $(OUT)/bench-plain: $(OBJ)/bench/plain.o $(PLAIN)
+	$(LINK) -o $@ $(BEFORE) $^ $(AFTER)
+
+$(OUT)/bench-searches: $(OBJ)/bench/searches.o $(DRAWN) $(PLAIN)
 	$(LINK) -o $@ $(BEFORE) $^ $(AFTER)
 
 $(OUT)/plain-%: $(OBJ)/plain/%.o $(PLAIN)

@@ -5,74 +5,16 @@
 #include "ildorzhen.h"
 #include "plain/plain.h"
 #include "compare/generate.h"
-#include <string.h>
+#include "compare/tally.h"
 
 int printf(const char *format, ...);
 int putchar(int byte);
 unsigned long strtoul(const char *text, char **end, int base);
 
-enum { GUARD = BEHIND, STEPS_ROOM = 200000, TEXT_ROOM = 8192, MOST_TOLD = 20 };
-enum entry { SECTIONS, SECTION, CHECK, EXPAND, LEAST, ENTRIES };
-
-/* ---- What was seen ---- */
-
-static struct {
-    uint64_t cases, failed, told, accepted, refusals[ENTRIES][17];
-    size_t longest_table, longest_plan, most_steps;
-    int failing;
-} tally;
-
-static void same(const char *what, uint64_t ours, uint64_t plain)
-{
-    if (ours == plain)
-        return;
-    tally.failing = 1;
-    if (tally.told++ < MOST_TOLD)
-        printf("case %lu: %s: %lu against %lu\n", (unsigned long)tally.cases, what, (unsigned long)ours,
-               (unsigned long)plain);
-}
-
-static void must(const char *what, int holds)
-{
-    same(what, (uint64_t)(holds != 0), 1);
-}
-
-/* ---- Lent memory ---- */
-
-/* A slice between guards, and a copy that tells afterwards whether a byte changed. */
-struct lent {
-    uint8_t *slice, *memory, *before;
-    size_t length;
-};
+enum { STEPS_ROOM = 200000, TEXT_ROOM = 8192 };
 
 static uint8_t table_memory[2][GUARD + TABLE_ROOM + GUARD], plan_memory[2][GUARD + PLAN_ROOM + GUARD];
 static uint8_t steps_memory[4][GUARD + STEPS_ROOM + GUARD], text_memory[4][GUARD + TEXT_ROOM + GUARD];
-
-/* Lends bytes, those behind them included; bytes from no source are drawn. A slice of no bytes may be a null pointer. */
-static struct lent lend(uint8_t *memory, uint8_t *before, const uint8_t *from, size_t length, struct draws d)
-{
-    struct lent l = {memory + GUARD, memory, before, length};
-    for (size_t k = 0; k < GUARD || (!from && k < length + 2 * GUARD); k += 8) {
-        uint64_t bytes = draw(&d);
-        memcpy(before + k, &bytes, 8);
-    }
-    if (from)
-        memcpy(before + GUARD, from, length + GUARD);
-    memcpy(memory, before, length + 2 * GUARD);
-    if (length == 0 && once_in(&d, 2))
-        l.slice = NULL;
-    return l;
-}
-
-static int stays(const struct lent *l)
-{
-    return memcmp(l->memory, l->before, l->length + 2 * GUARD) == 0;
-}
-
-static int alike(const struct lent *one, const struct lent *other)
-{
-    return memcmp(one->memory, other->memory, one->length + 2 * GUARD) == 0;
-}
 
 /* ---- One case ---- */
 
@@ -206,27 +148,14 @@ static void compare_section(struct question *q, const struct lent *t, uint64_t s
     tally.refusals[SECTION][a.number]++;
 }
 
-static void tell_bytes(const char *name, const uint8_t *bytes, size_t length)
-{
-    printf("  %s, %lu bytes:", name, (unsigned long)length);
-    for (size_t k = 0; k < length && k < 400; k++)
-        printf(" %02x", bytes[k]);
-    putchar('\n');
-}
-
 static void tell_case(const struct question *q)
 {
-    if (tally.told > MOST_TOLD)
+    if (!may_tell())
         return;
     printf("  bound %lu, form %lu, section %lu, room %lu, place %lu\n", (unsigned long)q->bound, (unsigned long)q->form,
            (unsigned long)q->index, (unsigned long)q->text_room, (unsigned long)q->at);
     tell_bytes("table", q->table, q->table_length);
     tell_bytes("plan", q->plan, q->plan_length);
-}
-
-static size_t larger(size_t one, size_t other)
-{
-    return one > other ? one : other;
 }
 
 /* Every call on one input. Answers the plain verdict, for cases that know more of the plan. */
@@ -249,9 +178,9 @@ static struct plain_verdict compare(struct question *q)
     tally.cases++;
     tally.failed += (uint64_t)tally.failing;
     tally.accepted += v.number == 0;
-    tally.longest_table = larger(tally.longest_table, a.number ? 0 : t.length);
-    tally.longest_plan = larger(tally.longest_plan, v.number ? 0 : p.length);
-    tally.most_steps = larger(tally.most_steps, v.steps);
+    raise_to(&tally.longest_table, a.number ? 0 : t.length);
+    raise_to(&tally.longest_plan, v.number ? 0 : p.length);
+    raise_to(&tally.most_steps, v.steps);
     return v;
 }
 
@@ -296,18 +225,6 @@ static void compare_walk(struct question *q, const struct walk *w)
     if (tally.failing)
         tell_case(q);
     tally.failed += (uint64_t)tally.failing;
-}
-
-static unsigned draw_bound(struct draws *d)
-{
-    return once_in(d, 4) ? 1 + below(d, 64) : once_in(d, 6) ? 64 : 1 + below(d, 8);
-}
-
-static uint64_t draw_wrong(struct draws *d)
-{
-    static const uint64_t wrong[] = {0, 2, 3, 65, 66, 255, 256, 257, 320, 65536, ((uint64_t)1 << 32) + 1, (uint64_t)1 << 63,
-                                     ~(uint64_t)0};
-    return wrong[below(d, sizeof wrong / sizeof *wrong)];
 }
 
 /* One damage or several, in the arguments, the table or the plan. */
@@ -530,13 +447,13 @@ static void empty_inputs(uint64_t seed)
 
 /* ---- The account ---- */
 
-static const char *const names[ENTRIES] = {"sections", "section", "check", "expand", "least"};
-static const unsigned gives[ENTRIES] = {0x003ee, 0x107ee, 0x0fbfe, 0x1fbfe, 0x003e8};   /* bit n: refusal n */
+static const char *const names[ENTRIES] = {"sections", "section", "check", "expand", "least", "search"};
+static const unsigned gives[ENTRIES] = {0x003ee, 0x107ee, 0x0fbfe, 0x1fbfe, 0x003e8, 0xf03ee};   /* bit n: refusal n */
 
 static void account_for(unsigned entry)
 {
     printf("%s: %lu answered; refused", names[entry], (unsigned long)tally.refusals[entry][0]);
-    for (unsigned n = 1; n <= 16; n++) {
+    for (unsigned n = 1; n < NUMBERS; n++) {
         int given = gives[entry] >> n & 1, seen = tally.refusals[entry][n] > 0;
         if (given || seen)
             printf(" %u: %lu", n, (unsigned long)tally.refusals[entry][n]);
@@ -556,6 +473,8 @@ static void account(void)
     printf("accepted plans %lu; longest table read %lu bytes, longest plan accepted %lu bytes, most steps %lu\n",
            (unsigned long)tally.accepted, (unsigned long)tally.longest_table, (unsigned long)tally.longest_plan,
            (unsigned long)tally.most_steps);
+    printf("longest plan found %lu operators, %lu bytes; most operators applied %lu\n", (unsigned long)tally.most_found,
+           (unsigned long)tally.longest_found, (unsigned long)tally.most_applied);
     printf("%lu passed, %lu failed\n", (unsigned long)(tally.cases - tally.failed), (unsigned long)tally.failed);
 }
 
@@ -571,6 +490,7 @@ int main(int count, char **arguments)
     large_tables(seed + 4, 300);
     long_inputs(seed + 5, 300);
     long_plans(seed + 6, 80);
+    compare_searches(seed + 7, 4000);
     account();
     return tally.failed != 0;
 }

@@ -1,5 +1,6 @@
 /* The night of March, from the console's side: a table of switch procedures, the whole plan, the half plan that was taken for
- * a whole one, and damaged tables. The rule is in judge: nothing goes to the switches but an accepted plan's steps. */
+ * a whole one, a plan of the console's own for the day without a planner, and damaged tables. The rule is in judge: nothing goes
+ * to the switches but an accepted plan's steps. */
 #include "ildorzhen.h"
 #include "words.h"
 #include <stdio.h>
@@ -93,6 +94,22 @@ static void judge(const char *name, uint64_t bound, uint64_t form, const char *t
     show_steps(steps, ildorzhen_expand_write(bound, form, TABLE, sizeof TABLE, plan, length, steps, ROOM));
 }
 
+/* Without a planner: the first plan of at most limit operators, if no more than budget have to be applied for it. It is judged
+ * like any other. */
+static void find(const char *name, uint64_t bound, uint64_t form, uint64_t limit, uint64_t budget)
+{
+    uint8_t plan[ILDORZHEN_MOST_FOUND_BYTES] = {0};
+    uint64_t length = ildorzhen_search_write(bound, form, limit, budget, TABLE, sizeof TABLE, plan, sizeof plan);
+    if (length == 0) {
+        tell_refusal(name, ildorzhen_search_number(bound, form, limit, budget, TABLE, sizeof TABLE, plan, sizeof plan),
+                     ildorzhen_search_place(bound, form, limit, budget, TABLE, sizeof TABLE, plan, sizeof plan));
+        return;
+    }
+    printf("%s: found, %llu operators applied\n", name,
+           (wide)ildorzhen_search_applied(bound, form, limit, budget, TABLE, sizeof TABLE, plan, sizeof plan));
+    judge(name, bound, form, (const char *)plan, length);
+}
+
 /* The least bound, for the planner and the check; 0 where the table is refused, or no bound lets its stack be emptied. */
 static uint64_t read_table(const char *name, const uint8_t *table, size_t length)
 {
@@ -121,6 +138,8 @@ int main(void)
     judge("half plan of March", bound, ILDORZHEN_PLAIN, half, sizeof half - 1);
     judge("plan that loads nothing", bound, ILDORZHEN_PLAIN, unloaded, sizeof unloaded - 1);
     judge("no plan", bound, ILDORZHEN_PLAIN, NULL, 0);
+    find("plan of our own", bound, ILDORZHEN_PREFIX, ILDORZHEN_MOST_LIMIT, ILDORZHEN_MOST_BUDGET);
+    find("plan of our own, of 2 lines", bound, ILDORZHEN_PREFIX, 2, ILDORZHEN_MOST_BUDGET);
     /* Here the starting task becomes an action. Not every changed byte is refused: with another cost it is another good table. */
     uint8_t changed[sizeof TABLE];
     for (size_t k = 0; k < sizeof TABLE; k++)

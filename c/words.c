@@ -21,6 +21,9 @@ static const struct { uint64_t number; struct ildorzhen_wording words; } ROWS[] 
     {ILDORZHEN_STACK_NOT_EMPTY, {"after line", "the plan stops with work left on the stack"}},
     {ILDORZHEN_GOAL_MISSING, {"after line", "the plan ends and a goal fact is missing"}},
     {ILDORZHEN_NO_ROOM, {"with bytes to write", "there is too little room for what is to be written"}},
+    {ILDORZHEN_BAD_LIMITS, {"at place", "a plan's most operators are not 1 to 256, or the budget is above 1,000,000"}},
+    {ILDORZHEN_NO_PLAN, {"with operators applied", "there is no plan of so few operators"}},
+    {ILDORZHEN_OVER_BUDGET, {"at place", "the search would apply more operators than its budget allows"}},
 };
 
 struct ildorzhen_wording ildorzhen_words(uint64_t number)

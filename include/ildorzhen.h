@@ -1,5 +1,5 @@
-/* Ildorzhen: tables of approved procedures, and plans for them, checked and expanded into steps. c/example.c is a short example,
- * c/march.c a longer one; c/words.c has words for the refusals.
+/* Ildorzhen: tables of approved procedures, and plans for them, checked, expanded into steps and found. c/example.c is a short
+ * example, c/march.c a longer one; c/words.c has words for the refusals.
  *
  * A call takes numbers and byte slices (a pointer, then the number of bytes there) and hands back one number. Where an answer
  * has several numbers there is a call for each, to be made with the same arguments. Nothing has to be checked before a call:
@@ -28,7 +28,7 @@
  * otherwise. ILDORZHEN_VERSION has both, to compare with: from 1002 on it is 1.2 or later. The archive does not carry it: header
  * and archive belong together. */
 #define ILDORZHEN_VERSION_MAJOR 1
-#define ILDORZHEN_VERSION_MINOR 0
+#define ILDORZHEN_VERSION_MINOR 1
 #define ILDORZHEN_VERSION (1000 * ILDORZHEN_VERSION_MAJOR + ILDORZHEN_VERSION_MINOR)
 
 /* Forms of a problem, and of the plans for it. */
@@ -46,6 +46,9 @@
 #define ILDORZHEN_MOST_TABLE_BYTES 32768
 #define ILDORZHEN_MOST_PLAN_BYTES 65536
 #define ILDORZHEN_MOST_SECTION_BYTES 2048
+#define ILDORZHEN_MOST_LIMIT 256        /* operators of a plan that is searched for */
+#define ILDORZHEN_MOST_BUDGET 1000000   /* operators that a search applies */
+#define ILDORZHEN_MOST_FOUND_BYTES 2560 /* of a plan that was found: a line has ten at most */
 #define ILDORZHEN_METHOD_WORDS 1024 /* in a step list the words from here on are methods, those below are actions */
 
 /* Refusals. Of several the first in this list is told; of 5 to 8 the one of the first number at fault, of 11 to 13 that of the
@@ -53,6 +56,7 @@
  *                                       when                                                   place */
 #define ILDORZHEN_BAD_BOUND 1         /* the bound is not 1 to 64                               0 */
 #define ILDORZHEN_BAD_FORM 2          /* the form is neither 0 (plain) nor 1 (prefix)           0 */
+#define ILDORZHEN_BAD_LIMITS 17       /* the limit is not 1 to 256, or budget over 1,000,000    0 */
 #define ILDORZHEN_TABLE_TOO_LONG 3    /* the table is longer than 32,768 bytes                  0 */
 #define ILDORZHEN_PLAN_TOO_LONG 4     /* the plan is longer than 65,536 bytes                   0 */
 #define ILDORZHEN_TABLE_ENDS 5        /* the table ends before or inside a number               table byte where it begins */
@@ -66,6 +70,8 @@
 #define ILDORZHEN_NOT_APPLICABLE 13   /* its operator may not run where it stands               the same */
 #define ILDORZHEN_STACK_NOT_EMPTY 14  /* the stack is not empty at the end                      how many lines the plan has */
 #define ILDORZHEN_GOAL_MISSING 15     /* a goal fact is missing at the end                      the same */
+#define ILDORZHEN_OVER_BUDGET 19      /* a search applies more operators than the budget says   0 */
+#define ILDORZHEN_NO_PLAN 18          /* there is no plan of at most so many operators          how many were applied */
 #define ILDORZHEN_NO_ROOM 16          /* the caller's room is too small                         bytes to be written */
 
 #ifdef __cplusplus
@@ -130,6 +136,27 @@ uint64_t ildorzhen_expand_length(uint64_t bound, uint64_t form, const uint8_t *t
                                  const uint8_t *plan, size_t plan_length, const uint8_t *steps, size_t steps_length);
 uint64_t ildorzhen_expand_write(uint64_t bound, uint64_t form, const uint8_t *table, size_t table_length,
                                 const uint8_t *plan, size_t plan_length, uint8_t *steps, size_t steps_length);
+
+/* Search for a plan for a table, with a bound and a form: depth first, the methods of a task in the table's order. The plan found
+ * is the first in that order of at most limit operators; the check accepts it with the same bound and form.
+ * An operator is applied for each list of 1 to limit operators that may run from the start, a list before those that continue it,
+ * up to the plan found and with it; where there is no plan, for all such lists. budget says how many may be: a number equal to it
+ * is allowed, and a search that comes to one more ends there.
+ * _applied hands back how many were applied, _length the length of the plan's text; _write writes the text and hands back its
+ * length, which is 0 only where it refuses. Each call is a search of its own: _write with room for ILDORZHEN_MOST_FOUND_BYTES
+ * first, and the others where more is to be known.
+ * Refusals: 1, 2, 17, 3, 5 to 9, 19, 18, 16. Asked with no room (a null pointer and 0), 16 has the room needed as its place.
+ * Writes: _write the first bytes of text, as many as it hands back, and those after them stay; the other four nothing. */
+uint64_t ildorzhen_search_number(uint64_t bound, uint64_t form, uint64_t limit, uint64_t budget,
+                                 const uint8_t *table, size_t table_length, const uint8_t *text, size_t text_length);
+uint64_t ildorzhen_search_place(uint64_t bound, uint64_t form, uint64_t limit, uint64_t budget,
+                                const uint8_t *table, size_t table_length, const uint8_t *text, size_t text_length);
+uint64_t ildorzhen_search_applied(uint64_t bound, uint64_t form, uint64_t limit, uint64_t budget,
+                                  const uint8_t *table, size_t table_length, const uint8_t *text, size_t text_length);
+uint64_t ildorzhen_search_length(uint64_t bound, uint64_t form, uint64_t limit, uint64_t budget,
+                                 const uint8_t *table, size_t table_length, const uint8_t *text, size_t text_length);
+uint64_t ildorzhen_search_write(uint64_t bound, uint64_t form, uint64_t limit, uint64_t budget,
+                                const uint8_t *table, size_t table_length, uint8_t *text, size_t text_length);
 
 #ifdef __cplusplus
 }

@@ -1,4 +1,4 @@
-/* One job on one input, for counting: read standard input, do the job that the argument names, or none, and end. */
+/* One job on the inputs that standard input has, for counting: read them, do the job that the argument names, or none, and end. */
 #ifndef BENCH_JOBS_H
 #define BENCH_JOBS_H
 
@@ -13,7 +13,7 @@ enum { INPUT_ROOM = 140000, STEPS_ROOM = 200000, TEXT_ROOM = 4096 };
 static const uint64_t some_sections[] = {0, 1, 65, 66, 130, 131, 6000, 12930, 12931, 20000, 28000, 36000};
 
 struct input {
-    uint64_t bound, form;
+    uint64_t bound, form, limit, budget;
     const uint8_t *table, *plan;
     size_t table_length, plan_length;
 };
@@ -25,6 +25,7 @@ struct jobs {
     uint64_t (*check)(const struct input *in);
     uint64_t (*expand)(const struct input *in, uint8_t *steps, size_t room);
     uint64_t (*least)(const struct input *in);
+    uint64_t (*search)(const struct input *in);
 };
 
 static uint64_t do_job(const struct jobs *jobs, const struct input *in, const char *job)
@@ -42,25 +43,48 @@ static uint64_t do_job(const struct jobs *jobs, const struct input *in, const ch
         return jobs->expand(in, steps, sizeof steps);
     if (!strcmp(job, "least"))
         return jobs->least(in);
+    if (!strcmp(job, "search"))
+        return jobs->search(in);
     return sum;
 }
 
-/* The input is the emitting program's, or the checking program's where the second argument says so. The result is
- * printed, so that both sides can be seen to have done the same; the count is taken without that. */
-static int run_job(const struct jobs *jobs, int count, char **arguments)
+/* The emitting program's input, or the checking program's. */
+static uint64_t do_call(const struct jobs *jobs, const uint8_t *bytes, size_t length, const char *job, int is_plan)
 {
-    static uint8_t bytes[INPUT_ROOM];
-    size_t length = read_input(bytes, sizeof bytes), header = 2;
-    if (count < 3 || length < 4)
-        return 1;
-    struct input in = {bytes[0], bytes[1], bytes + header, NULL, length - header, 0};
-    if (!strcmp(arguments[2], "plan")) {
+    struct input in = {bytes[0], bytes[1], 0, 0, bytes + 2, NULL, length - 2, 0};
+    if (is_plan) {
         in.table_length = bytes[2] + 256u * bytes[3];
         in.table = bytes + 4;
         in.plan = in.table + in.table_length;
         in.plan_length = length - 4 - in.table_length;
     }
-    uint64_t result = do_job(jobs, &in, arguments[1]);
+    return do_job(jobs, &in, job);
+}
+
+/* The finding program's inputs, one after the other, each behind its length. */
+static uint64_t do_searches(const struct jobs *jobs, const uint8_t *bytes, size_t length, const char *job)
+{
+    uint64_t sum = 0;
+    for (const uint8_t *at = bytes; at < bytes + length;) {
+        size_t table_length = at[0] + 256u * at[1] - 8;
+        uint64_t budget = at[6] + 256u * (at[7] + 256u * (at[8] + 256u * at[9]));
+        struct input in = {at[2], at[3], at[4] + 256u * at[5], budget, at + 10, NULL, table_length, 0};
+        sum += do_job(jobs, &in, job);
+        at += 10 + table_length;
+    }
+    return sum;
+}
+
+/* The second argument says what the input is. The result is printed, so that both sides can be seen to have done the same; the
+ * count is taken without that. */
+static int run_job(const struct jobs *jobs, int count, char **arguments)
+{
+    static uint8_t bytes[INPUT_ROOM];
+    size_t length = read_input(bytes, sizeof bytes);
+    if (count < 3 || length < 4)
+        return 1;
+    uint64_t result = !strcmp(arguments[2], "searches") ? do_searches(jobs, bytes, length, arguments[1])
+                      : do_call(jobs, bytes, length, arguments[1], !strcmp(arguments[2], "plan"));
     if (count > 3)
         printf("%lu\n", (unsigned long)result);
     return 0;

@@ -27,8 +27,14 @@ static uint64_t least(const struct input *in)
     return ildorzhen_least_bound(in->table, in->table_length);
 }
 
+/* Asked with no room, a plan found has the length of its text as the place, and no plan the number applied. */
+static uint64_t search(const struct input *in)
+{
+    return ildorzhen_search_place(in->bound, in->form, in->limit, in->budget, in->table, in->table_length, NULL, 0);
+}
+
 int main(int count, char **arguments)
 {
-    static const struct jobs jobs = {sections, section, check, expand, least};
+    static const struct jobs jobs = {sections, section, check, expand, least, search};
     return run_job(&jobs, count, arguments);
 }

@@ -27,8 +27,13 @@ static uint64_t least(const struct input *in)
     return plain_least(in->table, in->table_length).value;
 }
 
+static uint64_t search(const struct input *in)
+{
+    return plain_search(in->bound, in->form, in->limit, in->budget, in->table, in->table_length, NULL, 0).place;
+}
+
 int main(int count, char **arguments)
 {
-    static const struct jobs jobs = {sections, section, check, expand, least};
+    static const struct jobs jobs = {sections, section, check, expand, least, search};
     return run_job(&jobs, count, arguments);
 }

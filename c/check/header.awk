@@ -10,7 +10,7 @@ FILENAME ~ /\/(reasons|limits)\.rt$/ { read_constant($0); next }
 
 END {
     # What no constant of the source stands behind.
-    split("VERSION_MAJOR VERSION_MINOR PLAIN PREFIX", names, " ")
+    split("VERSION_MAJOR VERSION_MINOR PLAIN PREFIX MOST_FOUND_BYTES", names, " ")
     for (k in names)
         own[names[k]] = 1
     read_source(source)
@@ -19,6 +19,9 @@ END {
         compare_call(call[k])
     for (k = 1; k <= constants; k++)
         compare_constant(constant[k])
+    # A line of a plan is at most '(m511 64)' and its line feed.
+    if (values["header", "MOST_FOUND_BYTES"] != 10 * values["source", "MOST_LIMIT"])
+        tell("ILDORZHEN_MOST_FOUND_BYTES is not ten for each of the source's MOST_LIMIT")
     if (!differs)
         print "header: " calls " calls and " same " constants, as the source has them"
     exit differs

@@ -21,6 +21,18 @@ int once_in(struct draws *d, unsigned count)
     return below(d, count) == 0;
 }
 
+unsigned draw_bound(struct draws *d)
+{
+    return once_in(d, 4) ? 1 + below(d, 64) : once_in(d, 6) ? 64 : 1 + below(d, 8);
+}
+
+uint64_t draw_wrong(struct draws *d)
+{
+    static const uint64_t wrong[] = {0, 2, 3, 65, 66, 255, 256, 257, 320, 65536, ((uint64_t)1 << 32) + 1, (uint64_t)1 << 63,
+                                     ~(uint64_t)0};
+    return wrong[below(d, sizeof wrong / sizeof *wrong)];
+}
+
 static uint64_t pick(struct draws *d, const uint64_t *from, unsigned count)
 {
     return from[below(d, count)];

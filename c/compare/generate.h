@@ -13,6 +13,8 @@ struct draws { uint64_t state; };
 uint64_t draw(struct draws *d);
 unsigned below(struct draws *d, unsigned count);   /* 0 to count - 1 */
 int once_in(struct draws *d, unsigned count);
+unsigned draw_bound(struct draws *d);
+uint64_t draw_wrong(struct draws *d);              /* about where bounds and forms end, or far beyond */
 
 /* A table before it becomes bytes. */
 struct model {

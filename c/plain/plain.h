@@ -1,4 +1,4 @@
-/* Document 01 in plain C, written from the document and apart from the library: what the library is compared with
+/* Documents 01 and 02 in plain C, written from the documents and apart from the library: what the library is compared with
  * (c/compare.c) and measured against (c/bench). One function an entry; each answers for all inputs.
  *
  * number and place are the refusal's, both 0 where there is none; with a refusal every other number is 0. */
@@ -10,6 +10,7 @@
 
 struct plain_answer { uint64_t number, place, value; };
 struct plain_verdict { uint64_t number, place, cost, operators, steps; };
+struct plain_found { uint64_t number, place, applied, length; };
 
 /* How many sections the problem's text has. */
 struct plain_answer plain_sections(uint64_t bound, uint64_t form, const uint8_t *table, size_t table_length);
@@ -32,5 +33,9 @@ struct plain_answer plain_expand(uint64_t bound, uint64_t form, const uint8_t *t
 
 /* The value is the least bound, 0 where no bound up to 64 empties the stack. */
 struct plain_answer plain_least(const uint8_t *table, size_t table_length);
+
+/* Writes the text of the first plan of at most `limit` operators, found by applying at most `budget`; length is the text's. */
+struct plain_found plain_search(uint64_t bound, uint64_t form, uint64_t limit, uint64_t budget,
+                                const uint8_t *table, size_t table_length, uint8_t *text, size_t room);
 
 #endif

@@ -18,9 +18,6 @@ struct run {
     uint16_t *noted;
 };
 
-/* Above the highest position there is room to leave all eight bytes of an operator, whatever they mean. */
-enum { STACK = MOST_BOUND + 1 + MOST_SUBTASKS };
-
 /* An operator line: its operator's place among all, had the table so many, and its position. */
 struct line { unsigned operator, end, position; };
 

@@ -1,4 +1,4 @@
-/* What the plain emitting and checking programs share: reading standard input, writing standard output. */
+/* What the plain programs share: reading standard input, writing standard output. */
 #ifndef PLAIN_PROGRAMS_H
 #define PLAIN_PROGRAMS_H
 

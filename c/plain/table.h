@@ -7,12 +7,12 @@
 
 enum {
     MOST_BOUND = 64, MOST_FACTS = 64, MOST_ACTIONS = 255, MOST_TASKS = 256, MOST_METHODS = 512, MOST_SUBTASKS = 8,
-    MOST_COST = 65535, MOST_TABLE = 32768, MOST_PLAN = 65536
+    MOST_COST = 65535, MOST_TABLE = 32768, MOST_PLAN = 65536, MOST_LIMIT = 256, MOST_BUDGET = 1000000
 };
 
 enum {
     BAD_BOUND = 1, BAD_FORM, LONG_TABLE, LONG_PLAN, CUT_SHORT, NOT_SHORTEST, OUT_OF_RANGE, NOT_THERE, BYTES_AFTER,
-    NO_SECTION, BAD_LINE, NOT_EMITTED, NOT_APPLICABLE, STACK_LEFT, GOAL_MISSING, NO_ROOM
+    NO_SECTION, BAD_LINE, NOT_EMITTED, NOT_APPLICABLE, STACK_LEFT, GOAL_MISSING, NO_ROOM, BAD_LIMITS, NO_PLAN, OVER_BUDGET
 };
 
 struct fault { uint64_t number, place; };
@@ -39,6 +39,9 @@ struct fault judge_sizes(uint64_t bound, uint64_t form, size_t table_length, siz
 
 /* Reads the whole table, or answers refusal 5 to 9 with its place. */
 struct fault read_table(struct table *t, const uint8_t *bytes, size_t length);
+
+/* Above the highest position a stack has room to leave all eight bytes of an operator, whatever they mean. */
+enum { STACK = MOST_BOUND + 1 + MOST_SUBTASKS };
 
 /* What an operator needs, does and leaves, at whichever position. */
 struct operator {

@@ -37,10 +37,14 @@ abbrev pub after : {A B : Type 0} → Answer A → (A → Answer B) → Answer B
 after (answer a) f = f a
 after (refusal number place) f = refusal number place
 
+-- What is made of a result; a refusal stays.
+abbrev pub mapped : {A B : Type 0} → (A → B) → Answer A → Answer B
+mapped f (answer a) = answer (f a)
+mapped f (refusal number place) = refusal number place
+
 -- A text by its length.
 abbrev pub lengthOf : Answer (List ℕ) → Answer ℕ
-lengthOf (answer x) = answer (length x)
-lengthOf (refusal number place) = refusal number place
+lengthOf x = mapped length x
 
 -- What the code's reply says.
 abbrev pub replyOf : Reply → Answer ℕ

@@ -1,5 +1,7 @@
 -- Lists made from a number: the words in which the chapters say "for each".
 use Prim.Native.Nat.{ℕ, zero, suc, _+_}
+use mathlib.Core.Path.{_≡_}
+use mathlib.Core.Logic.{_⊎_}
 use mathlib.Core.List.{List, [], _∷_, _++_}
 
 -- f 0, f 1, .. f (n - 1).
@@ -21,3 +23,12 @@ sumTo f (suc n) = sumTo f n + f n
 unfoldable pub concat : {A : Type 0} → List (List A) → List A
 concat [] = []
 concat (x ∷ xs) = x ++ concat xs
+
+-- x is one of a list's members; no member is there twice.
+abbrev pub Among : {A : Type 0} → A → List A → Type 0
+Among x [] = ⊥
+Among x (y ∷ ys) = (x ≡ y) ⊎ Among x ys
+
+abbrev pub Distinct : {A : Type 0} → List A → Type 0
+Distinct [] = Unit {0}
+Distinct (x ∷ xs) = (Among x xs → ⊥) × Distinct xs

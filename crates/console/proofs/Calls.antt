@@ -1,15 +1,18 @@
 -- What the contracts of an entry's calls, as the source states them, allow on the same arguments: all results that they allow.
-use Prim.Native.Nat.{ℕ}
-use mathlib.Core.Path.{refl, sym, ap, transport, _∙_}
-use mathlib.Core.List.{List}
-use lib.ListN.{length}
+use Prim.Native.Nat.{ℕ, _+_, _≤_}
+use mathlib.Core.Path.{_≡_, refl, sym, ap, transport, _∙_}
+use mathlib.Core.List.{List, _++_}
+use native.Mathlib.Omega.{arith}
+use lib.ListN.{length, drop}
 use Rattle.basics.specs.Answers.{Answer, answer, refusal, numberOf, placeOf, valueOf, itself}
 use Rattle.rules.specs.Checks.{costOf, operatorsIn, stepsIn}
-use Rattle.rules.specs.Refusals.{countSections, oneSection, checkPlan, expandPlan, findLeast}
+use Rattle.rules.specs.Refusals.{countSections, oneSection, checkPlan, expandPlan, findLeast, Sought, planText, planBytes, searchPlan, textFound, written}
 use Rattle.theorems.proofs.Demand3.{solves, expansion, expansion-length}
-use Rattle.theorems.proofs.RefusalNumbers.{handed, count-numbers, section-numbers, check-numbers, expand-numbers, least-numbers}
+use Rattle.theorems.proofs.RefusalNumbers.{handed, no-value, count-numbers, section-numbers, check-numbers, expand-numbers, least-numbers}
 use Rattle.theorems.proofs.Completion.{counted, count-zero, section-is, section-zero, least-zero, least-least, completes-accepted, check-zero, expand-zero}
-use Rattle.console.specs.Calls.{Nothing, SectionsCalls, SectionCalls, LeastCalls, CheckCalls, ExpandCalls}
+use Rattle.sought.specs.Outcomes.{Finds, SearchCalls}
+use Rattle.sought.proofs.SearchAnswers.{search-answer, search-says}
+use Rattle.console.specs.Calls.{SectionsCalls, SectionCalls, LeastCalls, CheckCalls, ExpandCalls, SearchWrites}
 use Rattle.console.proofs.sections.ildorzhen_sections_number.Reads as sections-number
 use Rattle.console.proofs.sections.ildorzhen_sections_place.Reads as sections-place
 use Rattle.console.proofs.sections.ildorzhen_sections_count.Reads as sections-count
@@ -27,12 +30,13 @@ use Rattle.console.proofs.checking.ildorzhen_check_steps.Reads as check
 use Rattle.console.proofs.expanding.ildorzhen_expand_number.Reads as expand-number
 use Rattle.console.proofs.expanding.ildorzhen_expand_place.Reads as expand-place
 use Rattle.console.proofs.expanding.ildorzhen_expand_length.Reads as expand-length
+use Rattle.console.proofs.searching.ildorzhen_search_number.Reads as search-number
+use Rattle.console.proofs.searching.ildorzhen_search_place.Reads as search-place
+use Rattle.console.proofs.searching.ildorzhen_search_applied.Reads as search-applied
+use Rattle.console.proofs.searching.ildorzhen_search_length.Reads as search-length
+use Rattle.console.proofs.searching.ildorzhen_search_write.Reads as search-write
 
 -- What the definitions' numbers say.
-none : {A : Type 0} (g : A → ℕ) (a : Answer A) → Nothing (numberOf a) (valueOf g a)
-none g (answer y) n = absurd (n refl)
-none g (refusal number place) n = refl
-
 module _ (b f : ℕ) (s : List ℕ) where
   sections-say :
       let a = countSections b f s in
@@ -42,7 +46,7 @@ module _ (b f : ℕ) (s : List ℕ) where
         zero = count-zero b f s;
         counted = λ t g. ap (valueOf itself) (counted b f s t g);
         refusal = handed (countSections b f s) (count-numbers b f s);
-        nothing = none itself (countSections b f s);
+        nothing = no-value itself (countSections b f s);
       }
 
   section-says : (k all at : ℕ)
@@ -53,7 +57,7 @@ module _ (b f : ℕ) (s : List ℕ) where
         zero = section-zero b f s k all at;
         size = λ q. ap (valueOf length) (section-is b f s k all at q);
         refusal = handed (oneSection b f s k all at) (section-numbers b f s k all at);
-        nothing = none length (oneSection b f s k all at);
+        nothing = no-value length (oneSection b f s k all at);
       }
 
 least-says : (s : List ℕ)
@@ -64,7 +68,7 @@ least-says s =
       zero = least-zero s;
       least = least-least s;
       refusal = handed (findLeast s) (least-numbers s);
-      nothing = none itself (findLeast s);
+      nothing = no-value itself (findLeast s);
     }
 
 module _ (b f : ℕ) (s plan : List ℕ) where
@@ -89,7 +93,7 @@ module _ (b f : ℕ) (s plan : List ℕ) where
             λ q. let e = completes-accepted b f s plan q in
             ap (valueOf costOf) e ∙ solves (q .given) plan (q .size) _ _ _ e .1;
         refusal = handed (checkPlan b f s plan) (check-numbers b f s plan);
-        nothing = (none costOf (checkPlan b f s plan), none operatorsIn (checkPlan b f s plan), none stepsIn (checkPlan b f s plan));
+        nothing = (no-value costOf (checkPlan b f s plan), no-value operatorsIn (checkPlan b f s plan), no-value stepsIn (checkPlan b f s plan));
       }
 
   expand-says : (all : ℕ)
@@ -102,7 +106,7 @@ module _ (b f : ℕ) (s plan : List ℕ) where
             λ q h. let e = completes-accepted b f s plan q in
             ap (valueOf length) (expansion (q .given) plan (q .size) _ _ _ e all h) ∙ expansion-length (q .given) plan (q .size) _ _ _ e;
         refusal = handed (expandPlan b f s plan all) (expand-numbers b f s plan all);
-        nothing = none length (expandPlan b f s plan all);
+        nothing = no-value length (expandPlan b f s plan all);
       }
 
 -- For all arguments a: what each call hands back, and s1, s2 .. what is lent to it at exit.
@@ -153,3 +157,41 @@ expand-calls κs a n p m s1 s2 s3 h1 h2 h3 =
     transport
     (λ i. ExpandCalls (a .0) (a .1 .0) (a .1 .1 .0 .now) (a .1 .1 .1 .0 .now) (length (a .1 .1 .1 .1 .0 .now)) (sym h1 i) (sym h2 i) (sym h3 i))
     (expand-says (a .0) (a .1 .0) (a .1 .1 .0 .now) (a .1 .1 .1 .0 .now) (length (a .1 .1 .1 .1 .0 .now)))
+
+-- The named form: the search's count is the number of applicable lists up to the plan found.
+pub search-calls : (κs : _) (a : _) (n p c m : _) (s1 s2 s3 s4 : _)
+    → search-number.Post κs a n s1
+    → search-place.Post κs a p s2
+    → search-applied.Post κs a c s3
+    → search-length.Post κs a m s4
+    → SearchCalls (a .0) (a .1 .0) (a .1 .1 .0) (a .1 .1 .1 .0) (a .1 .1 .1 .1 .0 .now) (length (a .1 .1 .1 .1 .1 .0 .now)) n p c m
+search-calls κs a n p c m s1 s2 s3 s4 h1 h2 h3 h4 =
+    transport
+    (λ i. SearchCalls (a .0) (a .1 .0) (a .1 .1 .0) (a .1 .1 .1 .0) (a .1 .1 .1 .1 .0 .now) (length (a .1 .1 .1 .1 .1 .0 .now)) (sym h1 i) (sym h2 i) (sym h3 i) (sym h4 i))
+    (search-says (a .0) (a .1 .0) (a .1 .1 .0) (a .1 .1 .1 .0) (a .1 .1 .1 .1 .0 .now) (length (a .1 .1 .1 .1 .1 .0 .now)))
+
+module _ (b f l budget : ℕ) (s old : List ℕ) where
+  search-wrote :
+      let a = searchPlan b f l budget s (length old) in
+      SearchWrites b f l budget s old (written old 0 (textFound a)) (valueOf planBytes a)
+  unfolding written
+  search-wrote =
+      record {
+        text = λ y q h.
+            let e = search-answer b f l budget s (length old) y .1 (q, h) in
+            let z : 0 + planBytes y ≡ planBytes y = omega arith in
+            (ap (λ (a : Answer Sought). written old 0 (textFound a)) e ∙ (λ i. planText y ++ drop (z i) old), ap (valueOf planBytes) e);
+        nothing = go (searchPlan b f l budget s (length old)) refl;
+      }
+    where
+      go : (a : Answer Sought) → searchPlan b f l budget s (length old) ≡ a → ((y : Sought) → Finds b f l budget s y → planBytes y ≤ length old → ⊥)
+          → (written old 0 (textFound a) ≡ old) × (valueOf planBytes a ≡ 0)
+      go (answer y) e n = let q = search-answer b f l budget s (length old) y .0 e in absurd (n y (q .0) (q .1))
+      go (refusal number place) e n = (refl, refl)
+
+pub search-writes : (κs : _) (a : _) (m : _) (u : _) → search-write.Post κs a m u
+    → SearchWrites (a .0) (a .1 .0) (a .1 .1 .0) (a .1 .1 .1 .0) (a .1 .1 .1 .1 .0 .now) (a .1 .1 .1 .1 .1 .0 .now) (u .1 .1 .1 .1 .1 .0 .now) m
+search-writes κs a m u h =
+    transport
+    (λ i. SearchWrites (a .0) (a .1 .0) (a .1 .1 .0) (a .1 .1 .1 .0) (a .1 .1 .1 .1 .0 .now) (a .1 .1 .1 .1 .1 .0 .now) (sym (h .1) i) (sym (h .0) i))
+    (search-wrote (a .0) (a .1 .0) (a .1 .1 .0) (a .1 .1 .1 .0) (a .1 .1 .1 .1 .0 .now) (a .1 .1 .1 .1 .1 .0 .now))

@@ -1,4 +1,3 @@
-mod LengthLaws
 pub mod Outcomes
 pub mod Preconditions
 pub mod Calls

@@ -21,6 +21,11 @@ use Rattle.console.proofs.expanding.ildorzhen_expand_number.Reads as ex
 use Rattle.console.proofs.expanding.ildorzhen_expand_place.Reads as expand-place
 use Rattle.console.proofs.expanding.ildorzhen_expand_length.Reads as expand-length
 use Rattle.console.proofs.expanding.ildorzhen_expand_write.Reads as expand-write
+use Rattle.console.proofs.searching.ildorzhen_search_number.Reads as search-number
+use Rattle.console.proofs.searching.ildorzhen_search_place.Reads as search-place
+use Rattle.console.proofs.searching.ildorzhen_search_applied.Reads as search-applied
+use Rattle.console.proofs.searching.ildorzhen_search_length.Reads as search-length
+use Rattle.console.proofs.searching.ildorzhen_search_write.Reads as search-write
 
 -- A contract (lifetimes, arguments, result, what is lent at exit) and any two results that it allows for the same arguments.
 abbrev pub OneOutcome : {K : Type 0} {A R S : K → Type 0} → ((κs : K) → A κs → R κs → S κs → Type 0) → Type 0
@@ -93,3 +98,21 @@ expand-write-one κs a r q s u h k = h .0 ∙ sym (k .0)
 
 pub expand-write-bytes-one : OneText (λ κs s. s .1 .1 .1 .1 .0 .now) expand-write.Post
 expand-write-bytes-one κs a r q s u h k = h .1 ∙ sym (k .1)
+
+pub search-number-one : OneOutcome search-number.Post
+search-number-one κs a r q s u h k = h ∙ sym k
+
+pub search-place-one : OneOutcome search-place.Post
+search-place-one κs a r q s u h k = h ∙ sym k
+
+pub search-applied-one : OneOutcome search-applied.Post
+search-applied-one κs a r q s u h k = h ∙ sym k
+
+pub search-length-one : OneOutcome search-length.Post
+search-length-one κs a r q s u h k = h ∙ sym k
+
+pub search-write-one : OneOutcome search-write.Post
+search-write-one κs a r q s u h k = h .0 ∙ sym (k .0)
+
+pub search-write-bytes-one : OneText (λ κs s. s .1 .1 .1 .1 .1 .0 .now) search-write.Post
+search-write-bytes-one κs a r q s u h k = h .1 ∙ sym (k .1)

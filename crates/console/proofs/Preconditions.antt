@@ -18,6 +18,11 @@ use Rattle.console.proofs.expanding.ildorzhen_expand_number.Reads as ex
 use Rattle.console.proofs.expanding.ildorzhen_expand_place.Reads as expand-place
 use Rattle.console.proofs.expanding.ildorzhen_expand_length.Reads as expand-length
 use Rattle.console.proofs.expanding.ildorzhen_expand_write.Reads as expand-write
+use Rattle.console.proofs.searching.ildorzhen_search_number.Reads as search-number
+use Rattle.console.proofs.searching.ildorzhen_search_place.Reads as search-place
+use Rattle.console.proofs.searching.ildorzhen_search_applied.Reads as search-applied
+use Rattle.console.proofs.searching.ildorzhen_search_length.Reads as search-length
+use Rattle.console.proofs.searching.ildorzhen_search_write.Reads as search-write
 
 -- What a contract asks (lifetimes, arguments) holds for all arguments.
 abbrev pub AsksNothing : {K : Type 0} {A : K → Type 0} → ((κs : K) → A κs → Type 0) → Type 0
@@ -79,3 +84,18 @@ expand-length-asks κs a = tt
 
 pub expand-write-asks : AsksNothing expand-write.Asked
 expand-write-asks κs a = tt
+
+pub search-number-asks : AsksNothing search-number.Asked
+search-number-asks κs a = tt
+
+pub search-place-asks : AsksNothing search-place.Asked
+search-place-asks κs a = tt
+
+pub search-applied-asks : AsksNothing search-applied.Asked
+search-applied-asks κs a = tt
+
+pub search-length-asks : AsksNothing search-length.Asked
+search-length-asks κs a = tt
+
+pub search-write-asks : AsksNothing search-write.Asked
+search-write-asks κs a = tt

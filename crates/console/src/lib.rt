@@ -4,4 +4,5 @@ pub mod expanding;
 pub mod least_bound;
 pub mod one_section;
 mod reply;
+pub mod searching;
 pub mod sections;

@@ -1,8 +1,10 @@
-// The numbers of a reply and of a verdict, one at a time.
+// The numbers of a reply, of a verdict and of a finding, one at a time.
 ghost use mathlib.Core.Path.{_≡_};
 ghost use Rattle.basics.specs.Answers.{numberOf, placeOf, valueOf, replyOf, itself};
 ghost use Rattle.rules.specs.Checks.{verdictOf, costOf, operatorsIn, stepsIn};
+ghost use Rattle.finder.specs.Findings.{foundOf, bytesIn, appliedOf};
 use basics::Reply;
+use finder::Finding;
 use rules::Verdict;
 
 pub fn number(reply: Reply) -> u64
@@ -74,5 +76,41 @@ pub fn verdict_steps(verdict: Verdict) -> u64
     match verdict {
         Verdict::Accepted(_, _, steps) => steps,
         Verdict::Refused(_, _) => 0,
+    }
+}
+
+pub fn finding_number(finding: Finding) -> u64
+    ensures { λ r. ⌜ r ≡ numberOf (foundOf finding) ⌝ }
+{
+    match finding {
+        Finding::Plan(_, _) => 0,
+        Finding::Refused(number, _) => number,
+    }
+}
+
+pub fn finding_place(finding: Finding) -> u64
+    ensures { λ r. ⌜ r ≡ placeOf (foundOf finding) ⌝ }
+{
+    match finding {
+        Finding::Plan(_, _) => 0,
+        Finding::Refused(_, place) => place,
+    }
+}
+
+pub fn finding_bytes(finding: Finding) -> u64
+    ensures { λ r. ⌜ r ≡ valueOf bytesIn (foundOf finding) ⌝ }
+{
+    match finding {
+        Finding::Plan(bytes, _) => bytes,
+        Finding::Refused(_, _) => 0,
+    }
+}
+
+pub fn finding_applied(finding: Finding) -> u64
+    ensures { λ r. ⌜ r ≡ valueOf appliedOf (foundOf finding) ⌝ }
+{
+    match finding {
+        Finding::Plan(_, applied) => applied,
+        Finding::Refused(_, _) => 0,
     }
 }

@@ -66,7 +66,7 @@ fn open(input: &[u8], words: &mut [u64], figures: &mut [u8]) -> Job
     let bound = report::byte(input, 0) as u64;
     let form = report::byte(input, 1) as u64;
     let start = report::smaller(2, input.len());
-    match opening::open(bound, form, &input[start..], 0, words) {
+    match opening::open(bound, form, 0, &input[start..], 0, words) {
         Opening::Refused(number, place) => Job::Refusal(number, place),
         Opening::Opened => {
             template::fill_figures(figures);

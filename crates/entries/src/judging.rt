@@ -25,7 +25,7 @@ pub fn judge(bound: u64, form: u64, table: &[u8], plan: &[u8], steps: &mut [u8])
     ensures { λ _. ⌜ now (steps .exit) ≡ written (now (steps .entry)) 0 (expandPlan bound form (now (table .entry)) (now (plan .entry)) (length (now (steps .entry)))) ⌝ }
 {
     let mut words = [0u64; words::SIZE];
-    match opening::open(bound, form, table, plan_number(plan), &mut words) {
+    match opening::open(bound, form, 0, table, plan_number(plan), &mut words) {
         Opening::Refused(number, place) => Verdict::Refused(number, place),
         Opening::Opened => plan::judge(&words, bound, form, plan, steps),
     }

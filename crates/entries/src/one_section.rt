@@ -37,7 +37,7 @@ pub fn measure(bound: u64, form: u64, table: &[u8], index: u64, size: usize, at:
     ensures { λ r. ⌜ replyOf r ≡ lengthOf (oneSection bound form (now (table .entry)) index size at) ⌝ }
 {
     let mut words = [0u64; words::SIZE];
-    match opening::open(bound, form, table, 0, &mut words) {
+    match opening::open(bound, form, 0, table, 0, &mut words) {
         Opening::Refused(number, place) => Reply::Refused(number, place),
         Opening::Opened => measured(&words, bound, form, index, size, at),
     }
@@ -63,7 +63,7 @@ pub fn write(bound: u64, form: u64, table: &[u8], index: u64, text: &mut [u8], a
     ensures { λ _. ⌜ now (text .exit) ≡ written (now (text .entry)) at (oneSection bound form (now (table .entry)) index (length (now (text .entry))) at) ⌝ }
 {
     let mut words = [0u64; words::SIZE];
-    match opening::open(bound, form, table, 0, &mut words) {
+    match opening::open(bound, form, 0, table, 0, &mut words) {
         Opening::Refused(number, place) => Reply::Refused(number, place),
         Opening::Opened => {
             let from = at as usize;

@@ -9,7 +9,7 @@ pub fn count(bound: u64, form: u64, table: &[u8]) -> Reply
     ensures { λ r. ⌜ replyOf r ≡ countSections bound form (now (table .entry)) ⌝ }
 {
     let mut words = [0u64; words::SIZE];
-    match opening::open(bound, form, table, 0, &mut words) {
+    match opening::open(bound, form, 0, table, 0, &mut words) {
         Opening::Refused(number, place) => Reply::Refused(number, place),
         Opening::Opened => Reply::Value(problem::section_count(&words, bound, form)),
     }

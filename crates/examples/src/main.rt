@@ -4,8 +4,6 @@ ghost use Prim.Native.Nat.{_<_};
 ghost use lib.ListN.{length};
 use libc::STDIN_FILENO;
 
-mod calls;
-mod lines;
 mod programs;
 
 // Room for all records.
@@ -36,16 +34,19 @@ fn run_one(all: &[u8], at: usize) -> usize
     end
 }
 
-// c, e: an input of the checking program, of the emitting program; k, l, n, r, s, x, y: see there; t: a title, which is said as it is.
+// c, e, f: an input of the checking program, of the emitting program, of the finding program; g, k, l, n, r, s, x, y: see there; t: a
+// title, which is said as it is.
 fn show(kind: u8, input: &[u8]) {
     match kind {
         b'c' => programs::check(input),
         b'e' => programs::emit(input),
-        b'l' => calls::least(input),
-        b'n' => calls::sections(input),
-        b'r' => calls::section_in(input),
-        b's' => calls::section(input),
+        b'f' => programs::find(input),
+        b'g' => calling::search(input),
+        b'l' => calling::least(input),
+        b'n' => calling::sections(input),
+        b'r' => calling::section_in(input),
+        b's' => calling::section(input),
         b't' => report::send_text(input, input.len()),
-        _ => calls::with_plan(kind, input),
+        _ => calling::with_plan(kind, input),
     }
 }

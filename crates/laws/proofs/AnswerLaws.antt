@@ -4,7 +4,7 @@ use mathlib.Core.Bool.{Bool, true, false}
 use Prim.Native.Nat.{ℕ}
 use native.Mathlib.Omega.{arith}
 use lib.Dec.{T}
-use Rattle.basics.specs.Answers.{Answer, answer, refusal, check, after}
+use Rattle.basics.specs.Answers.{Answer, answer, refusal, numberOf, placeOf, valueOf, check, after, mapped}
 
 -- What a call ensures of its result r, at the constructor that a match found r to be.
 pub via : {R O : Type 0} (f : R → O) {r q : R} {o : O} → f r ≡ o → r ≡ q → o ≡ f q
@@ -28,3 +28,17 @@ pub after-refused : {A B C : Type 0} {n l : ℕ} (x : Answer A) (k : A → Answe
     → after x (λ a. after (k a) (g a)) ≡ refusal n l
 after-refused (answer a) k g e = ap (λ y. after y (g a)) e
 after-refused (refusal n l) k g e = cc
+
+-- What is made of a result has the answer's number and place, and its own numbers.
+module _ {A B : Type 0} (f : A → B) where
+  pub mapped-number : (a : Answer A) → numberOf (mapped f a) ≡ numberOf a
+  mapped-number (answer x) = refl
+  mapped-number (refusal n l) = refl
+
+  pub mapped-place : (a : Answer A) → placeOf (mapped f a) ≡ placeOf a
+  mapped-place (answer x) = refl
+  mapped-place (refusal n l) = refl
+
+  pub mapped-value : (g : B → ℕ) (a : Answer A) → valueOf g (mapped f a) ≡ valueOf (λ x. g (f x)) a
+  mapped-value g (answer x) = refl
+  mapped-value g (refusal n l) = refl

@@ -11,10 +11,10 @@ use lib.ListN.{length}
 use lib.Seq.{sets}
 use Rattle.basics.specs.Answers.{answer, refusal, check, after, lengthOf}
 use Rattle.basics.specs.Readings.{Reading, got, bad}
-use Rattle.rules.specs.Limits.{mostBound, mostTableBytes, mostPlanBytes}
-use Rattle.rules.specs.Reasons.{badBound, badForm, tableTooLong, planTooLong, noRoom}
+use Rattle.rules.specs.Limits.{mostBound, mostTableBytes, mostPlanBytes, mostLimit, mostBudget}
+use Rattle.rules.specs.Reasons.{badBound, badForm, tableTooLong, planTooLong, noRoom, badLimits}
 use Rattle.rules.specs.Tables.{Table, decode}
-use Rattle.rules.specs.Refusals.{readOf, tableRead, opened, planNumber, roomOf, roomFor, written}
+use Rattle.rules.specs.Refusals.{readOf, tableRead, opened, planNumber, searchNumber, roomOf, roomFor, written}
 use Rattle.laws.specs.Valid.{Valid}
 use Rattle.laws.proofs.AnswerLaws.{refused}
 use Rattle.laws.proofs.TableLaws.{valid}
@@ -42,24 +42,61 @@ read-valid s t e = go (decode s) refl e
     go (got t′ n) d e = let q : t′ ≡ t = cc in valid s t n (d ∙ ap (λ (x : Table). got x n) q)
     go (bad why at) d e = refused why at e
 
-module _ (late b f : ℕ) (s : List ℕ) where
-  pub bound-low : b < 1 → opened late b f s ≡ refusal badBound 0
+module _ (early late b f : ℕ) (s : List ℕ) where
+  pub bound-low : b < 1 → opened early late b f s ≡ refusal badBound 0
   unfolding opened
   bound-low h = rw (lt-leb 1 b h)
 
   module _ (l : 1 ≤ b) where
-    pub bound-high : mostBound < b → opened late b f s ≡ refusal badBound 0
+    pub bound-high : mostBound < b → opened early late b f s ≡ refusal badBound 0
     unfolding opened
     bound-high h = rw (le-leb 1 b l, lt-leb b mostBound h)
 
     module _ (h : b ≤ mostBound) where
-      pub form-bad : 1 < f → opened late b f s ≡ refusal badForm 0
+      pub form-bad : 1 < f → opened early late b f s ≡ refusal badForm 0
       unfolding opened
       form-bad k = rw (le-leb 1 b l, le-leb b mostBound h, lt-leb f 1 k)
 
-      pub opened-is : f ≤ 1 → opened late b f s ≡ tableRead late s
-      unfolding opened
-      opened-is k = rw (le-leb 1 b l, le-leb b mostBound h, le-leb f 1 k)
+      module _ (k : f ≤ 1) where
+        pub early-refused : (early ≡ 0 → ⊥) → opened early late b f s ≡ refusal early 0
+        unfolding opened
+        early-refused n = rw (le-leb 1 b l, le-leb b mostBound h, le-leb f 1 k, ne-eqb early 0 n)
+
+        pub opened-is : early ≡ 0 → opened early late b f s ≡ tableRead late s
+        unfolding opened
+        opened-is z = rw (le-leb 1 b l, le-leb b mostBound h, le-leb f 1 k, eq-eqb early 0 z)
+
+module _ (l budget : ℕ) where
+  pub limit-low : l < 1 → searchNumber l budget ≡ badLimits
+  unfolding searchNumber
+  limit-low h = rw (lt-leb 1 l h)
+
+  module _ (h : 1 ≤ l) where
+    pub limit-high : mostLimit < l → searchNumber l budget ≡ badLimits
+    unfolding searchNumber
+    limit-high k = rw (le-leb 1 l h, lt-leb l mostLimit k)
+
+    module _ (k : l ≤ mostLimit) where
+      pub budget-high : mostBudget < budget → searchNumber l budget ≡ badLimits
+      unfolding searchNumber
+      budget-high g = rw (le-leb 1 l h, le-leb l mostLimit k, lt-leb budget mostBudget g)
+
+      pub limits-in : budget ≤ mostBudget → searchNumber l budget ≡ 0
+      unfolding searchNumber
+      limits-in g = rw (le-leb 1 l h, le-leb l mostLimit k, le-leb budget mostBudget g)
+
+  pub limits-held : searchNumber l budget ≡ 0 → (1 ≤ l) × (l ≤ mostLimit) × (budget ≤ mostBudget)
+  limits-held e =
+      elim (decLe 1 l) [
+        | yes h ↦ elim (decLe l mostLimit) [
+          | yes k ↦ elim (decLe budget mostBudget) [
+            | yes g ↦ (h, k, g)
+            | no g ↦ let z = budget-high h k (omega arith) in absurd (omega (arith, z))
+          ]
+          | no k ↦ let z = limit-high h (omega arith) in absurd (omega (arith, z))
+        ]
+        | no h ↦ let z = limit-low (omega arith) in absurd (omega (arith, z))
+      ]
 
 module _ (plan : List ℕ) where
   pub plan-long : mostPlanBytes < length plan → planNumber plan ≡ planTooLong

@@ -19,14 +19,15 @@ pub record Opens (o : Answer Table) (goesOn : Type 0) (r : Opening) (w : List �
   pub answers : openingOf r w ≡ o
   pub known : r ≡ Opened → goesOn
 
--- The words hold a table, and the entry's own check has passed.
+-- The words hold a table, and the entry's own check has passed; here it has none before the table's length.
 pub record Read (late : ℕ) (w : List ℕ) : Type 0 where
   pub held : Held w
   pub passes : late ≡ 0
 
--- The same, and bound and form are in range.
-pub record Usable (late b f : ℕ) (w : List ℕ) : Type 0 where
+-- The same with both checks, and bound and form are in range.
+pub record Usable (early late b f : ℕ) (w : List ℕ) : Type 0 where
   pub held : Held w
+  pub first : early ≡ 0
   pub passes : late ≡ 0
   pub low : 1 ≤ b
   pub high : b ≤ mostBound

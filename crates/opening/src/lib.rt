@@ -1,5 +1,5 @@
 // The opening of a table, with which every entry begins. "Checks run in this order, an entry skipping what it lacks": bound, form,
-// the table's length, a check of the entry's own, the table.
+// a check of the entry's own, the table's length, another, the table.
 ghost use Prim.Native.Nat.{_≤_};
 ghost use lib.ListN.{length};
 ghost use Rattle.rules.specs.Refusals.{tableRead, opened};
@@ -18,10 +18,17 @@ pub enum Opening {
     Refused(u64, u64),
 }
 
-// For entries with bound and form. `late` is the number of the entry's own check: 0 where it passes or where there is none.
-pub fn open(bound: u64, form: u64, table: &[u8], late: u64, words: &mut [u64]) -> Opening
+// For entries with bound and form. `early` and `late` are the numbers of the entry's own checks: 0 where they pass or where there is none.
+pub fn open(
+    bound: u64,
+    form: u64,
+    early: u64,
+    table: &[u8],
+    late: u64,
+    words: &mut [u64],
+) -> Opening
     requires { ⌜ tableWords ≤ length (now words) ⌝ }
-    ensures { λ r. ⌜ Opens (opened late bound form (now (table .entry))) (Usable late bound form (now (words .exit))) r (now (words .exit)) ⌝ }
+    ensures { λ r. ⌜ Opens (opened early late bound form (now (table .entry))) (Usable early late bound form (now (words .exit))) r (now (words .exit)) ⌝ }
 {
     if bound < 1 {
         return Opening::Refused(BAD_BOUND, 0);
@@ -31,6 +38,9 @@ pub fn open(bound: u64, form: u64, table: &[u8], late: u64, words: &mut [u64]) -
     }
     if 1 < form {
         return Opening::Refused(BAD_FORM, 0);
+    }
+    if early != 0 {
+        return Opening::Refused(early, 0);
     }
     open_table(table, late, words)
 }

@@ -16,13 +16,29 @@ use Rattle.rules.specs.Tables.{Table}
 use Rattle.rules.specs.Sections.{problemText}
 use Rattle.rules.specs.Plans.{linesOf}
 use Rattle.rules.specs.Checks.{Tally, checkLines}
-use Rattle.rules.specs.Refusals.{boundFormed, tableRead, opened, planNumber, wholeProblem, checkPlan}
-use Rattle.rules.specs.Programs.{boundIn, formIn, sizeIn, checkInput, checkOutput, emitInput, emitOutput, told, acceptedLine, asItIs}
+use Rattle.rules.specs.Refusals.{boundFormed, passed, tableRead, opened, planNumber, wholeProblem, checkPlan, searchNumber, planText, soughtIn, findPlan}
+use Rattle.rules.specs.Programs.{
+  boundIn,
+  formIn,
+  pairAt,
+  sizeIn,
+  checkInput,
+  checkOutput,
+  emitInput,
+  emitOutput,
+  limitIn,
+  budgetIn,
+  findInput,
+  findOutput,
+  told,
+  acceptedLine,
+  asItIs,
+}
 use Rattle.laws.proofs.AnswerLaws.{check-passed, refused}
 use Rattle.laws.proofs.RefusalLaws.{table-long, plan-long}
 use Rattle.theorems.proofs.Demand3.{opened-given}
 use Rattle.report.specs.declared.Input.{Input}
-use Rattle.report.specs.Inputs.{mostSize, mostCheckInput, mostEmitInput, countOf, ReadFrom}
+use Rattle.report.specs.Inputs.{mostSize, mostCheckInput, mostEmitInput, mostFindInput, countOf, ReadFrom}
 
 drop-cut : (a n : ℕ) (l : List ℕ) → drop a (take (a + n) l) ≡ take n (drop a l)
 drop-cut zero n l = ap (λ (k : ℕ). take k l) (zero-add n)
@@ -59,19 +75,29 @@ module _ (b f : ℕ) (s : List ℕ) (n : ℕ) where
             ∙ sym (table-long late s (omega arith))
       ]
 
+  -- An entry that does what it does with the table alone answers as it did.
+  opened-cut : {A : Type 0} (early late : ℕ) (g : Table → Answer A) → mostTableBytes < n
+      → after (opened early late b f (take n s)) g ≡ after (opened early late b f s) g
+  unfolding opened
+  opened-cut early late g h = ap (λ (x : Answer Table). after (boundFormed b f (passed early x)) g) (table-cut late h)
+
   pub problem-cut : mostTableBytes < n → wholeProblem b f (take n s) ≡ wholeProblem b f s
-  unfolding wholeProblem opened
-  problem-cut h = ap (λ (x : Answer Table). after (boundFormed b f x) (λ t. answer (problemText b f t))) (table-cut 0 h)
+  unfolding wholeProblem
+  problem-cut h = opened-cut 0 0 (λ t. answer (problemText b f t)) h
+
+  pub found-cut : (l budget : ℕ) → mostTableBytes < n → findPlan b f l budget (take n s) ≡ findPlan b f l budget s
+  unfolding findPlan
+  found-cut l budget h = opened-cut (searchNumber l budget) 0 (λ t. soughtIn b f t l budget) h
 
   -- So is a plan; and of a plan that is too long, or behind a table that is, nothing else is looked at.
   long-plan : (x y : List ℕ) → mostPlanBytes < length x → mostPlanBytes < length y → checkPlan b f s x ≡ checkPlan b f s y
   unfolding checkPlan
   long-plan x y h k =
-      let barred : (t : Table) → opened planTooLong b f s ≡ answer t → ⊥ =
-      λ t e. let z = opened-given planTooLong b f s t e .1 in omega (arith, z) in
-      ap (λ (m : ℕ). after (opened m b f s) (λ t. checkLines b f t (linesOf x))) (plan-long x h)
-      ∙ same-refused (opened planTooLong b f s) barred (λ t. checkLines b f t (linesOf x)) (λ t. checkLines b f t (linesOf y))
-      ∙ ap (λ (m : ℕ). after (opened m b f s) (λ t. checkLines b f t (linesOf y))) (sym (plan-long y k))
+      let barred : (t : Table) → opened 0 planTooLong b f s ≡ answer t → ⊥ =
+      λ t e. let z = opened-given 0 planTooLong b f s t e .1 in omega (arith, z) in
+      ap (λ (m : ℕ). after (opened 0 m b f s) (λ t. checkLines b f t (linesOf x))) (plan-long x h)
+      ∙ same-refused (opened 0 planTooLong b f s) barred (λ t. checkLines b f t (linesOf x)) (λ t. checkLines b f t (linesOf y))
+      ∙ ap (λ (m : ℕ). after (opened 0 m b f s) (λ t. checkLines b f t (linesOf y))) (sym (plan-long y k))
 
   pub plan-cut : (plan : List ℕ) → mostPlanBytes < n → checkPlan b f s (take n plan) ≡ checkPlan b f s plan
   plan-cut plan h =
@@ -88,10 +114,21 @@ module _ (s : List ℕ) (n : ℕ) where
       (λ i. wholeProblem (getD-take n s 0 0 (omega arith) i) (getD-take n s 1 0 (omega arith) i) (cut-later 2 n s (omega arith) i))
       ∙ problem-cut (boundIn s) (formIn s) (drop 2 s) (n - 2) (omega arith)
 
+  pair-cut : (at : ℕ) → at + 1 < n → pairAt (take n s) at ≡ pairAt s at
+  pair-cut at h = ap₂ (λ (low high : ℕ). low + 256 * high) (getD-take n s at 0 (omega arith)) (getD-take n s (at + 1) 0 h)
+
+  -- The finding program's.
+  find-cut : mostFindInput ≤ n → findInput (take n s) ≡ findInput s
+  unfolding findInput limitIn budgetIn
+  find-cut h =
+      (λ i. findPlan (getD-take n s 0 0 (omega arith) i) (getD-take n s 1 0 (omega arith) i) (pair-cut 2 (omega arith) i)
+      (pair-cut 4 (omega arith) i + 256 * 256 * pair-cut 6 (omega arith) i) (cut-later 8 n s (omega arith) i))
+      ∙ found-cut (boundIn s) (formIn s) (drop 8 s) (n - 8) (limitIn s) (budgetIn s) (omega arith)
+
   -- The checking program's, whose two bytes of length are bytes.
   size-cut : mostCheckInput ≤ n → sizeIn (take n s) ≡ sizeIn s
   unfolding sizeIn
-  size-cut h = ap₂ (λ (low high : ℕ). low + 256 * high) (getD-take n s 2 0 (omega arith)) (getD-take n s 3 0 (omega arith))
+  size-cut h = pair-cut 2 (omega arith)
 
   module _ (h : mostCheckInput ≤ n) (low : sizeIn s ≤ mostSize) where
     there : drop 4 (take n s) ≡ take (n - 4) (drop 4 s)
@@ -130,6 +167,10 @@ module _ (s buffer : List ℕ) (n : Input) (r : ReadFrom s buffer n) where
   pub emit-read : mostEmitInput ≤ length buffer → emitOutput (take (countOf n) buffer) ≡ emitOutput s
   unfolding emitOutput
   emit-read h = ap (told asItIs) (ap emitInput r ∙ emit-cut s (length buffer) h)
+
+  pub find-read : mostFindInput ≤ length buffer → findOutput (take (countOf n) buffer) ≡ findOutput s
+  unfolding findOutput
+  find-read h = ap (told planText) (ap findInput r ∙ find-cut s (length buffer) h)
 
   pub check-read : mostCheckInput ≤ length buffer → sizeIn (take (countOf n) buffer) ≤ mostSize → checkOutput (take (countOf n) buffer) ≡ checkOutput s
   unfolding checkOutput

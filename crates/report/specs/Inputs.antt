@@ -14,9 +14,12 @@ mostSize = 256 * 256 - 1
 abbrev pub mostCheckInput : ℕ
 mostCheckInput = 4 + mostTableBytes + mostPlanBytes + 1
 
--- For the emitting program, a table one byte too long.
+-- For the emitting program, a table one byte too long; and for the finding program.
 abbrev pub mostEmitInput : ℕ
 mostEmitInput = 2 + mostTableBytes + 1
+
+abbrev pub mostFindInput : ℕ
+mostFindInput = 8 + mostTableBytes + 1
 
 -- How many bytes have been read.
 abbrev pub countOf : Input → ℕ

@@ -1,4 +1,4 @@
--- Document 01 as definitions, a module a chapter. Nothing here is about code.
+-- Document 01, as document 02 changes it, as definitions, a module a chapter. Nothing here is about code.
 pub mod Limits
 pub mod Reasons
 pub mod Numbers
@@ -11,5 +11,7 @@ pub mod Sections
 pub mod Plans
 pub mod Checks
 pub mod LeastBounds
+pub mod Searches
+pub mod Walks
 pub mod Refusals
 pub mod Programs

@@ -35,6 +35,13 @@ mostPlanBytes = 65536
 abbrev pub mostSectionBytes : ℕ
 mostSectionBytes = 2048
 
+-- Document 02, C-11: "at most L operators (1 to 256), and a budget of operators applied (0 to 1,000,000)".
+abbrev pub mostLimit : ℕ
+mostLimit = 256
+
+abbrev pub mostBudget : ℕ
+mostBudget = 1000000
+
 -- "method k as 1,024 + k": the first word of a step list that stands for a method.
 abbrev pub methodWords : ℕ
 methodWords = 1024

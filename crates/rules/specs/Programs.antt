@@ -1,4 +1,4 @@
--- The two programs: what each reads from standard input and what it writes ("Text sections" and "Plans").
+-- The programs: what each reads from standard input and what it writes ("Text sections", "Plans" and document 02, C-11).
 -- "In both programs, bound, form and length bytes that the input lacks read as 0, and a table cut short is what is there."
 use Prim.Native.Nat.{ℕ, _+_, _*_}
 use mathlib.Core.List.{List, [], _∷_}
@@ -6,7 +6,7 @@ use lib.ListN.{take, drop, getD}
 use Rattle.basics.specs.Answers.{Answer, answer, refusal}
 use Rattle.basics.specs.Texts.{bytes, digits, line}
 use Rattle.rules.specs.Checks.{Tally}
-use Rattle.rules.specs.Refusals.{wholeProblem, checkPlan}
+use Rattle.rules.specs.Refusals.{wholeProblem, checkPlan, Sought, planText, findPlan}
 
 abbrev pub boundIn : List ℕ → ℕ
 boundIn input = getD input 0 0
@@ -14,9 +14,13 @@ boundIn input = getD input 0 0
 abbrev pub formIn : List ℕ → ℕ
 formIn input = getD input 1 0
 
+-- Two bytes, low first.
+abbrev pub pairAt : List ℕ → ℕ → ℕ
+pairAt input at = getD input at 0 + 256 * getD input (at + 1) 0
+
 -- "Checking program: input is bound, form, table length (two bytes, low first), table, plan."
 unfoldable pub sizeIn : List ℕ → ℕ
-sizeIn input = getD input 2 0 + 256 * getD input 3 0
+sizeIn input = pairAt input 2
 
 unfoldable pub checkInput : List ℕ → Answer Tally
 checkInput input = checkPlan (boundIn input) (formIn input) (take (sizeIn input) (drop 4 input)) (drop (sizeIn input) (drop 4 input))
@@ -46,3 +50,18 @@ asItIs text = text
 
 unfoldable pub emitOutput : List ℕ → List ℕ
 emitOutput input = told asItIs (emitInput input)
+
+-- The finding program, for document 02's C-11: input is bound, form, L (two bytes, low first), budget (four bytes, low first), table.
+-- Its bytes that the input lacks read as 0 too.
+unfoldable pub limitIn : List ℕ → ℕ
+limitIn input = pairAt input 2
+
+unfoldable pub budgetIn : List ℕ → ℕ
+budgetIn input = pairAt input 4 + 256 * 256 * pairAt input 6
+
+unfoldable pub findInput : List ℕ → Answer Sought
+findInput input = findPlan (boundIn input) (formIn input) (limitIn input) (budgetIn input) (drop 8 input)
+
+-- It writes the text of the plan found; it refuses with the same line as the others.
+unfoldable pub findOutput : List ℕ → List ℕ
+findOutput input = told planText (findInput input)

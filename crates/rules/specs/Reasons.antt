@@ -64,3 +64,15 @@ goalMissing = 15
 -- "too little room".
 abbrev pub noRoom : ℕ
 noRoom = 16
+
+-- Document 02, C-11. "L or the budget out of range".
+abbrev pub badLimits : ℕ
+badLimits = 17
+
+-- "no plan of at most L operators".
+abbrev pub noPlan : ℕ
+noPlan = 18
+
+-- "that number is above the budget".
+abbrev pub overBudget : ℕ
+overBudget = 19

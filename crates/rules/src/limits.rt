@@ -19,4 +19,8 @@ pub const MOST_PLAN_BYTES: usize = 65536;
 
 pub const MOST_SECTION_BYTES: usize = 2048;
 
+pub const MOST_LIMIT: u64 = 256;
+
+pub const MOST_BUDGET: u64 = 1000000;
+
 pub const METHOD_WORDS: u64 = 1024;

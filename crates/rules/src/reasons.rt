@@ -30,3 +30,9 @@ pub const STACK_NOT_EMPTY: u64 = 14;
 pub const GOAL_MISSING: u64 = 15;
 
 pub const NO_ROOM: u64 = 16;
+
+pub const BAD_LIMITS: u64 = 17;
+
+pub const NO_PLAN: u64 = 18;
+
+pub const OVER_BUDGET: u64 = 19;

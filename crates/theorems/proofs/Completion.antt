@@ -32,15 +32,15 @@ use Rattle.theorems.proofs.RefusalNumbers.{count-numbers, section-numbe
 module _ (b f : ℕ) (s : List ℕ) where
   pub counted : (t : Table) → Given b f s t → countSections b f s ≡ answer (length (sectionsOf b f t))
   unfolding countSections
-  counted t g = ap (λ (a : Answer Table). after a (λ t. answer (length (sectionsOf b f t)))) (opens g 0 refl)
+  counted t g = ap (λ (a : Answer Table). after a (λ t. answer (length (sectionsOf b f t)))) (opens g 0 0 refl refl)
 
   pub count-zero : (numberOf (countSections b f s) ≡ 0) ↔ ((t : Table) × Given b f s t)
   unfolding countSections
   count-zero = (
     (λ e.
         let z = count-numbers b f s .zero .0 e in
-        let q = after-passed (opened 0 b f s) (λ t. answer (length (sectionsOf b f t))) (z .1) in
-        (q .0, opened-given 0 b f s (q .0) (q .1) .0)),
+        let q = after-passed (opened 0 0 b f s) (λ t. answer (length (sectionsOf b f t))) (z .1) in
+        (q .0, opened-given 0 0 b f s (q .0) (q .1) .0)),
     (λ q. ap numberOf (counted (q .0) (q .1))),
   )
 
@@ -50,7 +50,7 @@ module _ (b f : ℕ) (s : List ℕ) where
     section-is q =
         let x = getD (sectionsOf b f (q .table)) k [] in
         let c : chosen (sectionsOf b f (q .table)) k ≡ answer x = cond-true (ltb k (length (sectionsOf b f (q .table)))) _ _ (lt→ltb _ _ (q .there)) in
-        ap (λ (a : Answer Table). after a (λ t. sectionFor b f t k all at)) (opens (q .given) 0 refl)
+        ap (λ (a : Answer Table). after a (λ t. sectionFor b f t k all at)) (opens (q .given) 0 0 refl refl)
         ∙ ap (λ (a : Answer (List ℕ)). after a (roomFor all at)) c
         ∙ room-fits all at x (q .room)
 
@@ -59,7 +59,7 @@ module _ (b f : ℕ) (s : List ℕ) where
     section-zero = (
       (λ e.
           let z = section-numbers b f s k all at .zero .0 e in
-          let q = after-passed (opened 0 b f s) (λ t. sectionFor b f t k all at) (z .1) in
+          let q = after-passed (opened 0 0 b f s) (λ t. sectionFor b f t k all at) (z .1) in
           let x = after-passed (chosen (sectionsOf b f (q .0)) k) (roomFor all at) (q .2) in
           let c = check-passed (ltb k (length (sectionsOf b f (q .0)))) noSuchSection 0 _ (x .1) in
           let d : getD (sectionsOf b f (q .0)) k [] ≡ x .0 = cc (c .1) in
@@ -67,7 +67,7 @@ module _ (b f : ℕ) (s : List ℕ) where
           let l = check-passed (leb (at + length (x .0)) all) noRoom (length (x .0)) _ (r .1) in
           record {
             table = q .0;
-            given = opened-given 0 b f s (q .0) (q .1) .0;
+            given = opened-given 0 0 b f s (q .0) (q .1) .0;
             there = ltb→lt _ _ (c .0);
             room = omega (arith, leb→le (at + length (x .0)) all (l .0), ap length d);
           }),

@@ -45,7 +45,7 @@ opers-shaped [] = tt
 opers-shaped (o ∷ os) = opers-shaped os
 
 -- The operators of a run have numbers of at most three digits.
-known-small : (t : Table) → Valid t → (x : Step) → Known t x → ThreeDigits (stepNumber x)
+pub known-small : (t : Table) → Valid t → (x : Step) → Known t x → ThreeDigits (stepNumber x)
 known-small t v (act k) h = omega (arith, v .head .actions)
 known-small t v (mth k) h = omega (arith, v .head .methods)
 
@@ -68,22 +68,24 @@ numbered t v f b o s [] r = tt
 numbered t v f b o s (act k ∷ xs) r = let q = known t s (act k) (r .0) in (omega (arith, v .head .actions), numbered t v f b _ _ xs (r .2))
 numbered t v f b o s (mth k ∷ xs) r = let q = known t s (mth k) (r .0) in (omega (arith, v .head .methods), numbered t v f b _ _ xs (r .2))
 
--- What is opened is in range, passed the entry's own check, and its table was read.
-pub opened-given : (late b f : ℕ) (s : List ℕ) (t : Table) → opened late b f s ≡ answer t → Given b f s t × (late ≡ 0)
+-- What is opened is in range, passed the entry's own checks, and its table was read.
+pub opened-given : (early late b f : ℕ) (s : List ℕ) (t : Table) → opened early late b f s ≡ answer t → Given b f s t × (late ≡ 0) × (early ≡ 0)
 unfolding opened tableRead
-opened-given late b f s t e =
+opened-given early late b f s t e =
     let q1 = check-passed (leb 1 b && leb b mostBound) badBound 0 _ e in
     let q2 = check-passed (leb f 1) badForm 0 _ (q1 .1) in
-    let q3 = check-passed (leb (length s) mostTableBytes) tableTooLong 0 _ (q2 .1) in
-    let q4 = check-passed (eqb late 0) late 0 _ (q3 .1) in (
+    let q3 = check-passed (eqb early 0) early 0 _ (q2 .1) in
+    let q4 = check-passed (leb (length s) mostTableBytes) tableTooLong 0 _ (q3 .1) in
+    let q5 = check-passed (eqb late 0) late 0 _ (q4 .1) in (
       record {
         low = leb→le 1 b (and-l (leb 1 b) (leb b mostBound) (q1 .0));
         high = leb→le b mostBound (and-r (leb 1 b) (leb b mostBound) (q1 .0));
         form = leb→le f 1 (q2 .0);
-        size = leb→le (length s) mostTableBytes (q3 .0);
-        reads = q4 .1;
+        size = leb→le (length s) mostTableBytes (q4 .0);
+        reads = q5 .1;
       },
-      eqb→eq late 0 (q4 .0),
+      eqb→eq late 0 (q5 .0),
+      eqb→eq early 0 (q3 .0),
     )
 
 -- So is what is accepted.
@@ -91,8 +93,8 @@ pub accepted-given : (b f : ℕ) (s plan : List ℕ) (c o k : ℕ) → checkPlan
     → (t : Table) × Given b f s t × (length plan ≤ mostPlanBytes)
 unfolding checkPlan
 accepted-given b f s plan c o k e =
-    let q = after-passed (opened (planNumber plan) b f s) (λ t. checkLines b f t (linesOf plan)) e in
-    let g = opened-given (planNumber plan) b f s (q .0) (q .1) in
+    let q = after-passed (opened 0 (planNumber plan) b f s) (λ t. checkLines b f t (linesOf plan)) e in
+    let g = opened-given 0 (planNumber plan) b f s (q .0) (q .1) in
     (q .0, g .0, plan-small plan (g .1))
 
 -- The check of lines, both ways.
@@ -124,13 +126,13 @@ module _ (b f : ℕ) (t : Table) (some : 1 ≤ b) (ls : List Line) (c o k : ℕ)
       }
 
 module _ {b f : ℕ} {s : List ℕ} {t : Table} (g : Given b f s t) where
-  -- What is in range is opened, where the entry's own check passes, and comes to the check of the plan's lines.
-  pub opens : (late : ℕ) → late ≡ 0 → opened late b f s ≡ answer t
-  opens late z = opened-is late b f s (g .low) (g .high) (g .form) ∙ table-is late s (g .size) z ∙ g .reads
+  -- What is in range is opened, where the entry's own checks pass, and comes to the check of the plan's lines.
+  pub opens : (early late : ℕ) → early ≡ 0 → late ≡ 0 → opened early late b f s ≡ answer t
+  opens early late y z = opened-is early late b f s (g .low) (g .high) (g .form) y ∙ table-is late s (g .size) z ∙ g .reads
 
   checks : (plan : List ℕ) → length plan ≤ mostPlanBytes → checkPlan b f s plan ≡ checkLines b f t (linesOf plan)
   unfolding checkPlan
-  checks plan l = ap (λ (a : Answer Table). after a (λ t. checkLines b f t (linesOf plan))) (opens (planNumber plan) (plan-fits plan l))
+  checks plan l = ap (λ (a : Answer Table). after a (λ t. checkLines b f t (linesOf plan))) (opens 0 (planNumber plan) refl (plan-fits plan l))
 
   table-valid : Valid t
   table-valid = read-valid s t (g .reads)
@@ -189,7 +191,7 @@ module _ {b f : ℕ} {s : List ℕ} {t : Table} (g : Given b f s t) where
     pub expansion-is : (size : ℕ) → expandPlan b f s plan size ≡ roomFor size 0 (stepBytes (expandAll f t (opersOf (linesOf plan))))
     unfolding expandPlan
     expansion-is size =
-        ap (λ (a : Answer Table). after a (λ t. stepsFor b f t plan size)) (opens (planNumber plan) (plan-fits plan l))
+        ap (λ (a : Answer Table). after a (λ t. stepsFor b f t plan size)) (opens 0 (planNumber plan) refl (plan-fits plan l))
         ∙ ap (λ (a : Answer Tally). after a (λ _. roomFor size 0 (stepBytes (expandAll f t (opersOf (linesOf plan)))))) (sym (checks plan l) ∙ e)
 
     pub expansion : (size : ℕ) → 2 * k ≤ size → expandPlan b f s plan size ≡ answer (stepBytes (expandAll f t (opersOf (linesOf plan))))

@@ -14,11 +14,11 @@ use Rattle.rules.specs.Checks.{accepted, checkLines, stepBytes}
 use Rattle.rules.specs.LeastBounds.{leastBound}
 use Rattle.rules.specs.Refusals.{planNumber, tableRead, opened, checkPlan, expandPlan, findLeast}
 
-abbrev tableT : List ℕ
+abbrev pub tableT : List ℕ
 tableT = 1 ∷ 1 ∷ 1 ∷ 1 ∷ 1 ∷ 0 ∷ 1 ∷ 0 ∷ 1 ∷ 0 ∷ 3 ∷ 1 ∷ 1 ∷ 0 ∷ []
 
 -- "U is T with the method `01 02 00 00`."
-abbrev tableU : List ℕ
+abbrev pub tableU : List ℕ
 tableU = 1 ∷ 1 ∷ 1 ∷ 1 ∷ 1 ∷ 0 ∷ 1 ∷ 0 ∷ 1 ∷ 0 ∷ 3 ∷ 1 ∷ 2 ∷ 0 ∷ 0 ∷ []
 
 -- "T with byte 8 as 0".

@@ -16,7 +16,7 @@ pub expansion-refused : (b f : ℕ) (s plan : List ℕ) (size number place : ℕ
     → expandPlan b f s plan size ≡ refusal number place
 unfolding checkPlan expandPlan
 expansion-refused b f s plan size number place =
-    after-refused (opened (planNumber plan) b f s) (λ t. checkLines b f t (linesOf plan))
+    after-refused (opened 0 (planNumber plan) b f s) (λ t. checkLines b f t (linesOf plan))
     (λ t _. roomFor size 0 (stepBytes (expandAll f t (opersOf (linesOf plan)))))
 
 -- Number, place and length of the expansion, from the answer of the check.

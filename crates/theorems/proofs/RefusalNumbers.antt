@@ -10,7 +10,7 @@ use lib.ListN.{length, getD, drop}
 use lib.Seq.{slice}
 use lib.Dec.{T, eqb, leb, ltb, ltb→lt, nleb→lt}
 use Rattle.basics.specs.Readings.{Reading, got, bad, then, many}
-use Rattle.basics.specs.Answers.{Answer, answer, refusal, numberOf, placeOf, check, after}
+use Rattle.basics.specs.Answers.{Answer, answer, refusal, numberOf, placeOf, valueOf, check, after}
 use Rattle.rules.specs.Limits.{mostFacts, mostActions, mostTasks, mostMethods, mostSubtasks, mostCost, mostBound, mostTableBytes, mostPlanBytes}
 use Rattle.rules.specs.Reasons.{badBound, badForm, tableTooLong, planTooLong, tableEnds, badNumber, outOfRange, notThere, bytesAfterTable, noSuchSection, lineShape, notEmitted, notApplicable, stackNotEmpty, goalMissing, noRoom}
 use Rattle.rules.specs.Numbers.{groupsBefore, groupsValue, sound, numberAt, inRange, ranged}
@@ -22,7 +22,7 @@ use Rattle.rules.specs.Plans.{Line, note, oper, other, linesOf, opersOf}
 use Rattle.rules.specs.Checks.{Place, skip, apply, checkFrom, checkLines, stepBytes}
 use Rattle.rules.specs.Refusals.{readOf, tableRead, opened, planNumber, roomOf, roomFor, countSections, chosen, oneSection, wholeProblem, checkPlan, expandPlan, findLeast}
 use Rattle.rules.specs.Sections.{sectionsOf}
-use Rattle.theorems.specs.Numbers.{oneOf, leastNumbers, sectionsNumbers, sectionNumbers, checkNumbers, expandNumbers, Listed, Tells, Handed, NoText, ShortSection, ShortSteps}
+use Rattle.theorems.specs.Numbers.{oneOf, leastNumbers, sectionsNumbers, sectionNumbers, checkNumbers, expandNumbers, Listed, Tells, Handed, Never, Nothing, ShortSection, ShortSteps}
 use Rattle.laws.proofs.TestLaws.{and-l, and-r}
 use Rattle.laws.proofs.AnswerLaws.{refused, check-passed}
 use Rattle.laws.proofs.RefusalLaws.{plan-long, plan-fits}
@@ -137,16 +137,16 @@ module _ (Q : ℕ → ℕ → Type 0) (s : List ℕ) (q : OfTable Q (length s)) 
       closed-reads (record { head = h; actions = actions; methods = methods }) p3 l3
 
 -- Q holds of an answer's refusal.
-abbrev Refuses : {A : Type 0} → (ℕ → ℕ → Type 0) → Answer A → Type 0
+abbrev pub Refuses : {A : Type 0} → (ℕ → ℕ → Type 0) → Answer A → Type 0
 Refuses Q (answer a) = Unit {0}
 Refuses Q (refusal number place) = Q number place
 
-check-refuses : {A : Type 0} (Q : ℕ → ℕ → Type 0) (x : Bool) (n l : ℕ) (rest : Answer A) → (T (not x) → Q n l) → (T x → Refuses Q rest)
+pub check-refuses : {A : Type 0} (Q : ℕ → ℕ → Type 0) (x : Bool) (n l : ℕ) (rest : Answer A) → (T (not x) → Q n l) → (T x → Refuses Q rest)
     → Refuses Q (check x n l rest)
 check-refuses Q true n l rest f g = g tt
 check-refuses Q false n l rest f g = f tt
 
-after-refuses : {A B : Type 0} (Q : ℕ → ℕ → Type 0) (x : Answer A) (k : A → Answer B) → Refuses Q x → ((a : A) → x ≡ answer a → Refuses Q (k a))
+pub after-refuses : {A B : Type 0} (Q : ℕ → ℕ → Type 0) (x : Answer A) (k : A → Answer B) → Refuses Q x → ((a : A) → x ≡ answer a → Refuses Q (k a))
     → Refuses Q (after x k)
 after-refuses Q (answer a) k h g = g a refl
 after-refuses Q (refusal n l) k h g = h
@@ -170,11 +170,12 @@ module _ (Q : ℕ → ℕ → Type 0) (late : ℕ) (own : (late ≡ 0 → ⊥) �
       (λ _. check-refuses Q (eqb late 0) late 0 _ (λ n. own (λ e. rw (eq-eqb late 0 e) at n))
       (λ _. read-refuses Q (length s) (decode s) (decode-reads Q s q)))
 
-  opened-refuses : Q badBound 0 → Q badForm 0 → (b f : ℕ) → Refuses Q (opened late b f s)
+  opened-refuses : Q badBound 0 → Q badForm 0 → (early : ℕ) → ((early ≡ 0 → ⊥) → Q early 0) → (b f : ℕ) → Refuses Q (opened early late b f s)
   unfolding opened
-  opened-refuses bound form b f =
+  opened-refuses bound form early first b f =
       check-refuses Q (leb 1 b && leb b mostBound) badBound 0 _ (λ _. bound)
-      (λ _. check-refuses Q (leb f 1) badForm 0 _ (λ _. form) (λ _. table-refuses))
+      (λ _. check-refuses Q (leb f 1) badForm 0 _ (λ _. form)
+      (λ _. check-refuses Q (eqb early 0) early 0 _ (λ n. first (λ e. rw (eq-eqb early 0 e) at n)) (λ _. table-refuses)))
 
 -- The check of lines, from a place in a plan of n lines.
 record OfLines (Q : ℕ → ℕ → Type 0) (n : ℕ) : Type 0 where
@@ -203,11 +204,11 @@ module _ (Q : ℕ → ℕ → Type 0) (n : ℕ) (q : OfLines Q n) (b f : ℕ) (t
   lines-refuse ls e = from-refuses ls _ (omega arith)
 
 -- Numbers that are all in a row.
-abbrev within : List ℕ → List ℕ → Bool
+abbrev pub within : List ℕ → List ℕ → Bool
 within [] row = true
 within (m ∷ ms) row = oneOf row m && within ms row
 
-in-row : (ms row : List ℕ) (n : ℕ) → T (within ms row) → T (oneOf ms n) → T (oneOf row n)
+pub in-row : (ms row : List ℕ) (n : ℕ) → T (within ms row) → T (oneOf ms n) → T (oneOf row n)
 in-row [] row n w h = absurd h
 in-row (m ∷ ms) row n w h =
     go (eqb n m) refl (in-row ms row n (and-r (oneOf row m) (within ms row) w)) h
@@ -221,9 +222,9 @@ never true h k = k
 never false h k = h
 
 -- An entry with that row, on the table s.
-module _ (row s : List ℕ) (lines : ℕ) (Short : ℕ → Type 0) where
+module _ (row s : List ℕ) (lines : ℕ) (Short Tried : ℕ → Type 0) where
   abbrev Allowed : ℕ → ℕ → Type 0
-  Allowed = Listed row (length s) lines Short
+  Allowed = Listed row (length s) lines Short Tried
 
   of-table : T (within leastNumbers row) → OfTable Allowed (length s)
   of-table w =
@@ -236,12 +237,16 @@ module _ (row s : List ℕ) (lines : ℕ) (Short : ℕ → Type 0) where
         behind = λ at l. record { listed = in-row leastNumbers row bytesAfterTable w tt; placed = l };
       }
 
-  of-opening : T (within sectionsNumbers row) → (late : ℕ) → ((late ≡ 0 → ⊥) → Allowed late 0) → (b f : ℕ) → Refuses Allowed (opened late b f s)
-  of-opening w late own =
+  pub of-opening : T (within sectionsNumbers row) → (early late : ℕ) → ((early ≡ 0 → ⊥) → Allowed early 0) → ((late ≡ 0 → ⊥) → Allowed late 0)
+      → (b f : ℕ)
+      → Refuses Allowed (opened early late b f s)
+  of-opening w early late first own =
       let v = and-r (oneOf row badBound) (within (badForm ∷ leastNumbers) row) w in
       opened-refuses Allowed late own s (of-table (and-r (oneOf row badForm) (within leastNumbers row) v))
       (record { listed = and-l (oneOf row badBound) (within (badForm ∷ leastNumbers) row) w; placed = refl })
       (record { listed = and-l (oneOf row badForm) (within leastNumbers row) v; placed = refl })
+      early
+      first
 
   of-lines : T (within checkNumbers row) → OfLines Allowed lines
   of-lines w =
@@ -261,7 +266,7 @@ module _ (row s : List ℕ) (lines : ℕ) (Short : ℕ → Type 0) where
       ]
 
   -- What refuses so is numbered so, where 0 is not in the row.
-  numbered : {A : Type 0} → T (not (oneOf row 0)) → (a : Answer A) → Refuses Allowed a → Tells row (length s) lines Short a
+  pub numbered : {A : Type 0} → T (not (oneOf row 0)) → (a : Answer A) → Refuses Allowed a → Tells row (length s) lines Short Tried a
   numbered {A} n a h =
       record {
         refused = λ number place e. subst (Refuses Allowed) e h;
@@ -273,8 +278,8 @@ module _ (row s : List ℕ) (lines : ℕ) (Short : ℕ → Type 0) where
       go (refusal number place) h e = absurd (never (oneOf row 0) (subst (λ (k : ℕ). T (oneOf row k)) e (h .listed)) n)
 
 -- So are the number and the place that are handed back.
-pub handed : {A : Type 0} {row : List ℕ} {size lines : ℕ} {Short : ℕ → Type 0} (a : Answer A) → Tells row size lines Short a
-    → Handed row size lines Short (numberOf a) (placeOf a)
+pub handed : {A : Type 0} {row : List ℕ} {size lines : ℕ} {Short Tried : ℕ → Type 0} (a : Answer A) → Tells row size lines Short Tried a
+    → Handed row size lines Short Tried (numberOf a) (placeOf a)
 handed (answer x) q = record { result = λ _. refl; refused = λ n. absurd (n refl) }
 handed (refusal number place) q =
     record {
@@ -282,31 +287,36 @@ handed (refusal number place) q =
       refused = λ _. q .refused number place refl;
     }
 
+-- No number is read off a refusal.
+pub no-value : {A : Type 0} (g : A → ℕ) (a : Answer A) → Nothing (numberOf a) (valueOf g a)
+no-value g (answer y) n = absurd (n refl)
+no-value g (refusal number place) n = refl
+
 -- Entry by entry.
-pub count-numbers : (b f : ℕ) (s : List ℕ) → Tells sectionsNumbers (length s) 0 NoText (countSections b f s)
+pub count-numbers : (b f : ℕ) (s : List ℕ) → Tells sectionsNumbers (length s) 0 Never Never (countSections b f s)
 unfolding countSections
 count-numbers b f s =
-    numbered sectionsNumbers s 0 NoText tt (countSections b f s)
-    (after-refuses _ (opened 0 b f s) _ (of-opening sectionsNumbers s 0 NoText tt 0 (λ n. absurd (n refl)) b f) (λ t e. tt))
+    numbered sectionsNumbers s 0 Never Never tt (countSections b f s)
+    (after-refuses _ (opened 0 0 b f s) _ (of-opening sectionsNumbers s 0 Never Never tt 0 0 (λ n. absurd (n refl)) (λ n. absurd (n refl)) b f) (λ t e. tt))
 
-pub whole-numbers : (b f : ℕ) (s : List ℕ) → Tells sectionsNumbers (length s) 0 NoText (wholeProblem b f s)
+pub whole-numbers : (b f : ℕ) (s : List ℕ) → Tells sectionsNumbers (length s) 0 Never Never (wholeProblem b f s)
 unfolding wholeProblem
 whole-numbers b f s =
-    numbered sectionsNumbers s 0 NoText tt (wholeProblem b f s)
-    (after-refuses _ (opened 0 b f s) _ (of-opening sectionsNumbers s 0 NoText tt 0 (λ n. absurd (n refl)) b f) (λ t e. tt))
+    numbered sectionsNumbers s 0 Never Never tt (wholeProblem b f s)
+    (after-refuses _ (opened 0 0 b f s) _ (of-opening sectionsNumbers s 0 Never Never tt 0 0 (λ n. absurd (n refl)) (λ n. absurd (n refl)) b f) (λ t e. tt))
 
-pub least-numbers : (s : List ℕ) → Tells leastNumbers (length s) 0 NoText (findLeast s)
+pub least-numbers : (s : List ℕ) → Tells leastNumbers (length s) 0 Never Never (findLeast s)
 unfolding findLeast
 least-numbers s =
-    numbered leastNumbers s 0 NoText tt (findLeast s)
-    (after-refuses _ (tableRead 0 s) _ (table-refuses _ 0 (λ n. absurd (n refl)) s (of-table leastNumbers s 0 NoText tt)) (λ t e. tt))
+    numbered leastNumbers s 0 Never Never tt (findLeast s)
+    (after-refuses _ (tableRead 0 s) _ (table-refuses _ 0 (λ n. absurd (n refl)) s (of-table leastNumbers s 0 Never Never tt)) (λ t e. tt))
 
 pub section-numbers : (b f : ℕ) (s : List ℕ) (k all at : ℕ)
-    → Tells sectionNumbers (length s) 0 (ShortSection b f s k all at) (oneSection b f s k all at)
+    → Tells sectionNumbers (length s) 0 (ShortSection b f s k all at) Never (oneSection b f s k all at)
 unfolding oneSection
 section-numbers b f s k all at =
-    numbered sectionNumbers s 0 (ShortSection b f s k all at) tt (oneSection b f s k all at)
-    (after-refuses _ (opened 0 b f s) _ (of-opening sectionNumbers s 0 (ShortSection b f s k all at) tt 0 (λ n. absurd (n refl)) b f)
+    numbered sectionNumbers s 0 (ShortSection b f s k all at) Never tt (oneSection b f s k all at)
+    (after-refuses _ (opened 0 0 b f s) _ (of-opening sectionNumbers s 0 (ShortSection b f s k all at) Never tt 0 0 (λ n. absurd (n refl)) (λ n. absurd (n refl)) b f)
     (λ t e. after-refuses _ (chosen (sectionsOf b f t) k) (roomFor all at)
     (check-refuses _ (ltb k (length (sectionsOf b f t))) noSuchSection 0 _ (λ _. record { listed = tt; placed = refl }) (λ _. tt))
     (λ x d.
@@ -317,35 +327,35 @@ section-numbers b f s k all at =
       listed = tt;
       placed = record {
         table = t;
-        given = opened-given 0 b f s t e .0;
+        given = opened-given 0 0 b f s t e .0;
         there = ltb→lt k (length (sectionsOf b f t)) (q .0);
         bytes = ap length (sym g);
         room = l;
       };
     }))))
 
-pub check-numbers : (b f : ℕ) (s plan : List ℕ) → Tells checkNumbers (length s) (length (linesOf plan)) NoText (checkPlan b f s plan)
+pub check-numbers : (b f : ℕ) (s plan : List ℕ) → Tells checkNumbers (length s) (length (linesOf plan)) Never Never (checkPlan b f s plan)
 unfolding checkPlan
 check-numbers b f s plan =
     let n = length (linesOf plan) in
-    numbered checkNumbers s n NoText tt (checkPlan b f s plan)
-    (after-refuses _ (opened (planNumber plan) b f s) _
-    (of-opening checkNumbers s n NoText tt (planNumber plan) (of-plan checkNumbers s n NoText tt plan) b f)
-    (λ t e. lines-refuse _ n (of-lines checkNumbers s n NoText tt) b f t (linesOf plan) refl))
+    numbered checkNumbers s n Never Never tt (checkPlan b f s plan)
+    (after-refuses _ (opened 0 (planNumber plan) b f s) _
+    (of-opening checkNumbers s n Never Never tt 0 (planNumber plan) (λ n. absurd (n refl)) (of-plan checkNumbers s n Never Never tt plan) b f)
+    (λ t e. lines-refuse _ n (of-lines checkNumbers s n Never Never tt) b f t (linesOf plan) refl))
 
 pub expand-numbers : (b f : ℕ) (s plan : List ℕ) (all : ℕ)
-    → Tells expandNumbers (length s) (length (linesOf plan)) (ShortSteps b f s plan all) (expandPlan b f s plan all)
+    → Tells expandNumbers (length s) (length (linesOf plan)) (ShortSteps b f s plan all) Never (expandPlan b f s plan all)
 unfolding expandPlan
 expand-numbers b f s plan all =
     let n = length (linesOf plan) in
     let Short = ShortSteps b f s plan all in
-    numbered expandNumbers s n Short tt (expandPlan b f s plan all)
-    (after-refuses _ (opened (planNumber plan) b f s) _
-    (of-opening expandNumbers s n Short tt (planNumber plan) (of-plan expandNumbers s n Short tt plan) b f)
+    numbered expandNumbers s n Short Never tt (expandPlan b f s plan all)
+    (after-refuses _ (opened 0 (planNumber plan) b f s) _
+    (of-opening expandNumbers s n Short Never tt 0 (planNumber plan) (λ n. absurd (n refl)) (of-plan expandNumbers s n Short Never tt plan) b f)
     (λ t e. after-refuses _ (checkLines b f t (linesOf plan)) _
-    (lines-refuse _ n (of-lines expandNumbers s n Short tt) b f t (linesOf plan) refl)
+    (lines-refuse _ n (of-lines expandNumbers s n Short Never tt) b f t (linesOf plan) refl)
     (λ y d. room-refuses _ all 0 (stepBytes (expandAll f t (opersOf (linesOf plan))))
     (λ l. record {
       listed = tt;
-      placed = record { table = t; given = opened-given (planNumber plan) b f s t e .0; bytes = refl; room = omega arith };
+      placed = record { table = t; given = opened-given 0 (planNumber plan) b f s t e .0; bytes = refl; room = omega arith };
     }))))

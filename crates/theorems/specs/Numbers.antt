@@ -7,7 +7,7 @@ use mathlib.Core.List.{List, [], _∷_, _++_}
 use lib.ListN.{length, getD}
 use lib.Dec.{T, eqb}
 use Rattle.basics.specs.Answers.{Answer, answer, refusal, numberOf}
-use Rattle.rules.specs.Reasons.{badBound, badForm, tableTooLong, planTooLong, tableEnds, badNumber, outOfRange, notThere, bytesAfterTable, noSuchSection, lineShape, notEmitted, notApplicable, stackNotEmpty, goalMissing, noRoom}
+use Rattle.rules.specs.Reasons.{badBound, badForm, tableTooLong, planTooLong, tableEnds, badNumber, outOfRange, notThere, bytesAfterTable, noSuchSection, lineShape, notEmitted, notApplicable, stackNotEmpty, goalMissing, noRoom, badLimits, noPlan, overBudget}
 use Rattle.rules.specs.Tables.{Table}
 use Rattle.rules.specs.Operators.{expandAll}
 use Rattle.rules.specs.Sections.{sectionsOf}
@@ -40,36 +40,41 @@ checkNumbers =
 abbrev pub expandNumbers : List ℕ
 expandNumbers = checkNumbers ++ (noRoom ∷ [])
 
--- The column "Place", by the number, for a table of `size` bytes, a plan of `lines` lines ("Lines count from 1") and what `Short` says
--- of the bytes to write: "0"; "where that number begins", where the table may end; "same" and "first of them", where it does not;
--- "line"; "lines in all"; "bytes to write".
-abbrev pub PlaceOf : ℕ → ℕ → (ℕ → Type 0) → ℕ → ℕ → Type 0
-PlaceOf size lines Short number place =
-    cond (oneOf (badBound ∷ badForm ∷ tableTooLong ∷ planTooLong ∷ noSuchSection ∷ []) number) (place ≡ 0)
+-- The column "Place", by the number, for a table of `size` bytes, a plan of `lines` lines ("Lines count from 1"), what `Short` says
+-- of the bytes to write and `Tried` of the operators applied: "0"; "where that number begins", where the table may end; "same" and
+-- "first of them", where it does not; "line"; "lines in all"; "bytes to write"; "the number applied".
+abbrev pub PlaceOf : ℕ → ℕ → (ℕ → Type 0) → (ℕ → Type 0) → ℕ → ℕ → Type 0
+PlaceOf size lines Short Tried number place =
+    cond (oneOf (badBound ∷ badForm ∷ badLimits ∷ tableTooLong ∷ planTooLong ∷ noSuchSection ∷ overBudget ∷ []) number) (place ≡ 0)
     (cond (oneOf (tableEnds ∷ []) number) (place ≤ size)
     (cond (oneOf (badNumber ∷ outOfRange ∷ notThere ∷ bytesAfterTable ∷ []) number) (place < size)
     (cond (oneOf (lineShape ∷ notEmitted ∷ notApplicable ∷ []) number) ((1 ≤ place) × (place ≤ lines))
     (cond (oneOf (stackNotEmpty ∷ goalMissing ∷ []) number) (place ≡ lines)
-    (cond (oneOf (noRoom ∷ []) number) (Short place) ⊥)))))
+    (cond (oneOf (noRoom ∷ []) number) (Short place)
+    (cond (oneOf (noPlan ∷ []) number) (Tried place) ⊥))))))
 
 -- A refusal's number is of the row, and its place is the number's.
-pub record Listed (row : List ℕ) (size lines : ℕ) (Short : ℕ → Type 0) (number place : ℕ) : Type 0 where
+pub record Listed (row : List ℕ) (size lines : ℕ) (Short Tried : ℕ → Type 0) (number place : ℕ) : Type 0 where
   pub listed : T (oneOf row number)
-  pub placed : PlaceOf size lines Short number place
+  pub placed : PlaceOf size lines Short Tried number place
 
 -- Every refusal is so, and the number is 0 exactly with a result.
-pub record Tells {A : Type 0} (row : List ℕ) (size lines : ℕ) (Short : ℕ → Type 0) (a : Answer A) : Type 0 where
-  pub refused : (number place : ℕ) → a ≡ refusal number place → Listed row size lines Short number place
+pub record Tells {A : Type 0} (row : List ℕ) (size lines : ℕ) (Short Tried : ℕ → Type 0) (a : Answer A) : Type 0 where
+  pub refused : (number place : ℕ) → a ≡ refusal number place → Listed row size lines Short Tried number place
   pub zero : (numberOf a ≡ 0) ↔ ((x : A) × (a ≡ answer x))
 
 -- The number and the place that are handed back of an answer: 0 and 0 of a result, and otherwise such a refusal's.
-pub record Handed (row : List ℕ) (size lines : ℕ) (Short : ℕ → Type 0) (number place : ℕ) : Type 0 where
+pub record Handed (row : List ℕ) (size lines : ℕ) (Short Tried : ℕ → Type 0) (number place : ℕ) : Type 0 where
   pub result : number ≡ 0 → place ≡ 0
-  pub refused : (number ≡ 0 → ⊥) → Listed row size lines Short number place
+  pub refused : (number ≡ 0 → ⊥) → Listed row size lines Short Tried number place
 
--- No text is written.
-abbrev pub NoText : ℕ → Type 0
-NoText n = ⊥
+-- Of an entry that writes no text, or does not search.
+abbrev pub Never : ℕ → Type 0
+Never n = ⊥
+
+-- "every other number handed back is 0".
+abbrev pub Nothing : ℕ → ℕ → Type 0
+Nothing number value = (number ≡ 0 → ⊥) → value ≡ 0
 
 -- The problem has a section k, and there is room for it from the place `at` on of `all` bytes.
 pub record RoomForSection (b f : ℕ) (s : List ℕ) (k all at : ℕ) : Type 0 where

@@ -3,7 +3,7 @@ use lib.ListN.{length}
 use borrow.Author.Needs.{needs}
 use Rattle.basics.specs.Answers.{numberOf}
 use Rattle.rules.specs.Refusals.{expandPlan}
-use Rattle.console.proofs.LengthLaws.{length-number}
+use Rattle.laws.proofs.AnswerLaws.{mapped-number}
 use Rattle.console.proofs.expanding.ildorzhen_expand_number.Statement.{statement}
 use Rattle.console.proofs.expanding.ildorzhen_expand_number.Tie as tie
 
@@ -16,7 +16,7 @@ number-requires c κs = search needs
 returns : tie.Need-returns
 returns c =
     let a = c .before .before .before .before .before .args in
-    c .number .ensures ∙ ap numberOf (c .before .measure .ensures) ∙ length-number (expandPlan (a .bound) (a .form) (a .table .now) (a .plan .now) (length (a .steps .now)))
+    c .number .ensures ∙ ap numberOf (c .before .measure .ensures) ∙ mapped-number length (expandPlan (a .bound) (a .form) (a .table .now) (a .plan .now) (length (a .steps .now)))
 
 pub ildorzhen-expand-number-spec : {M : Type 1} → statement M
 ildorzhen-expand-number-spec = tie.close (tie.spec measure-requires number-requires returns)

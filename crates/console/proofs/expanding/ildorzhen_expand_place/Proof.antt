@@ -3,7 +3,7 @@ use lib.ListN.{length}
 use borrow.Author.Needs.{needs}
 use Rattle.basics.specs.Answers.{placeOf}
 use Rattle.rules.specs.Refusals.{expandPlan}
-use Rattle.console.proofs.LengthLaws.{length-place}
+use Rattle.laws.proofs.AnswerLaws.{mapped-place}
 use Rattle.console.proofs.expanding.ildorzhen_expand_place.Statement.{statement}
 use Rattle.console.proofs.expanding.ildorzhen_expand_place.Tie as tie
 
@@ -16,7 +16,7 @@ place-requires c κs = search needs
 returns : tie.Need-returns
 returns c =
     let a = c .before .before .before .before .before .args in
-    c .place .ensures ∙ ap placeOf (c .before .measure .ensures) ∙ length-place (expandPlan (a .bound) (a .form) (a .table .now) (a .plan .now) (length (a .steps .now)))
+    c .place .ensures ∙ ap placeOf (c .before .measure .ensures) ∙ mapped-place length (expandPlan (a .bound) (a .form) (a .table .now) (a .plan .now) (length (a .steps .now)))
 
 pub ildorzhen-expand-place-spec : {M : Type 1} → statement M
 ildorzhen-expand-place-spec = tie.close (tie.spec measure-requires place-requires returns)

@@ -3,7 +3,7 @@ use lib.ListN.{length}
 use borrow.Author.Needs.{needs}
 use Rattle.basics.specs.Answers.{valueOf, itself}
 use Rattle.rules.specs.Refusals.{expandPlan}
-use Rattle.console.proofs.LengthLaws.{length-value}
+use Rattle.laws.proofs.AnswerLaws.{mapped-value}
 use Rattle.console.proofs.expanding.ildorzhen_expand_write.Statement.{statement}
 use Rattle.console.proofs.expanding.ildorzhen_expand_write.Tie as tie
 
@@ -21,7 +21,7 @@ returns c =
     let a = c .before .before .before .before .before .before .before .before .args in
     let done = c .before .before .before .write .ensures in (
       c .value .ensures ∙ ap (valueOf itself) (done .0)
-          ∙ length-value (expandPlan (a .bound) (a .form) (a .table .now) (a .plan .now) (length (a .steps .now))),
+          ∙ mapped-value length itself (expandPlan (a .bound) (a .form) (a .table .now) (a .plan .now) (length (a .steps .now))),
       done .1,
     )
 

@@ -3,7 +3,7 @@ use lib.ListN.{length}
 use borrow.Author.Needs.{needs}
 use Rattle.basics.specs.Answers.{numberOf}
 use Rattle.rules.specs.Refusals.{oneSection}
-use Rattle.console.proofs.LengthLaws.{length-number}
+use Rattle.laws.proofs.AnswerLaws.{mapped-number}
 use Rattle.console.proofs.one_section.ildorzhen_section_number.Statement.{statement}
 use Rattle.console.proofs.one_section.ildorzhen_section_number.Tie as tie
 
@@ -16,7 +16,7 @@ number-requires c κs = search needs
 returns : tie.Need-returns
 returns c =
     let a = c .before .before .before .before .args in
-    c .number .ensures ∙ ap numberOf (c .before .measure .ensures) ∙ length-number (oneSection (a .bound) (a .form) (a .table .now) (a .index) (length (a .text .now)) (a .at))
+    c .number .ensures ∙ ap numberOf (c .before .measure .ensures) ∙ mapped-number length (oneSection (a .bound) (a .form) (a .table .now) (a .index) (length (a .text .now)) (a .at))
 
 pub ildorzhen-section-number-spec : {M : Type 1} → statement M
 ildorzhen-section-number-spec =

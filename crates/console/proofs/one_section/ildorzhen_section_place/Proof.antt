@@ -3,7 +3,7 @@ use lib.ListN.{length}
 use borrow.Author.Needs.{needs}
 use Rattle.basics.specs.Answers.{placeOf}
 use Rattle.rules.specs.Refusals.{oneSection}
-use Rattle.console.proofs.LengthLaws.{length-place}
+use Rattle.laws.proofs.AnswerLaws.{mapped-place}
 use Rattle.console.proofs.one_section.ildorzhen_section_place.Statement.{statement}
 use Rattle.console.proofs.one_section.ildorzhen_section_place.Tie as tie
 
@@ -16,7 +16,7 @@ place-requires c κs = search needs
 returns : tie.Need-returns
 returns c =
     let a = c .before .before .before .before .args in
-    c .place .ensures ∙ ap placeOf (c .before .measure .ensures) ∙ length-place (oneSection (a .bound) (a .form) (a .table .now) (a .index) (length (a .text .now)) (a .at))
+    c .place .ensures ∙ ap placeOf (c .before .measure .ensures) ∙ mapped-place length (oneSection (a .bound) (a .form) (a .table .now) (a .index) (length (a .text .now)) (a .at))
 
 pub ildorzhen-section-place-spec : {M : Type 1} → statement M
 ildorzhen-section-place-spec =

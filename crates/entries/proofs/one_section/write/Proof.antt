@@ -39,7 +39,7 @@ returns c =
     let opening = c .before .before .before .before .before .before in
     let a = opening .before .before .before .before .args in
     let old = a .text .now in
-    let x = chosen (sectionsOf (a .bound) (a .form) (tableOf (opening .«open» .last .1 .1 .1 .1 .0))) (a .index) in
+    let x = chosen (sectionsOf (a .bound) (a .form) (tableOf (opening .«open» .last .1 .1 .1 .1 .1 .0))) (a .index) in
     let q = goes-on (opening .«open» .ensures) (c .before .before .before .enum-told .given .1) (λ t. sectionFor (a .bound) (a .form) t (a .index) (length old) (a .at)) in
     (c .measured .ensures ∙ sym (ap lengthOf q), sym (ap (written old (a .at)) q ∙ kept-past old (a .at) (c .before .before .if1 .taken) x))
 
@@ -77,7 +77,7 @@ returns-3 c =
     let opening = c .before .before .before .before .before .before .before .before .before in
     let a = opening .before .before .before .before .args in
     let old = a .text .now in
-    let x = chosen (sectionsOf (a .bound) (a .form) (tableOf (opening .«open» .last .1 .1 .1 .1 .0))) (a .index) in
+    let x = chosen (sectionsOf (a .bound) (a .form) (tableOf (opening .«open» .last .1 .1 .1 .1 .1 .0))) (a .index) in
     let l = c .before .before .before .before .before .if1 .left in
     let e = goes-on (opening .«open» .ensures) (c .before .before .before .before .before .before .enum-told .given .1) (λ t. sectionFor (a .bound) (a .form) t (a .index) (length old) (a .at)) in
     let q = part-room old (a .at) l x ∙ sym e in

@@ -1,0 +1,9 @@
+pub mod AmongLaws
+pub mod OrderLaws
+pub mod ChoiceLaws
+pub mod TreeLaws
+pub mod SeekLaws
+pub mod Search
+pub mod Plans
+pub mod SearchAnswers
+pub mod Examples
