@@ -7,7 +7,7 @@ use native.Mathlib.Decide.{decLe}
 use native.Mathlib.Nat.{zero-add, suc-add}
 use native.Mathlib.Omega.{arith}
 use lib.Dec.{leb}
-use lib.ListN.{length, take, drop, getD, length-drop}
+use lib.ListN.{length, take, drop, length-drop}
 use lib.Seq.{take-all, take-nil, take-take, length-take-le, getD-take}
 use Rattle.basics.specs.Answers.{Answer, answer, refusal, after}
 use Rattle.rules.specs.Limits.{mostBound, mostTableBytes, mostPlanBytes}
@@ -15,25 +15,9 @@ use Rattle.rules.specs.Reasons.{badBound, badForm, tableTooLong, planTooLong}
 use Rattle.rules.specs.Tables.{Table}
 use Rattle.rules.specs.Sections.{problemText}
 use Rattle.rules.specs.Plans.{linesOf}
-use Rattle.rules.specs.Checks.{Tally, checkLines}
+use Rattle.rules.specs.Checks.{checkLines}
 use Rattle.rules.specs.Refusals.{boundFormed, passed, tableRead, opened, planNumber, wholeProblem, checkPlan, searchNumber, planText, soughtIn, findPlan}
-use Rattle.rules.specs.Programs.{
-  boundIn,
-  formIn,
-  pairAt,
-  sizeIn,
-  checkInput,
-  checkOutput,
-  emitInput,
-  emitOutput,
-  limitIn,
-  budgetIn,
-  findInput,
-  findOutput,
-  told,
-  acceptedLine,
-  asItIs,
-}
+use Rattle.rules.specs.Programs.{boundIn, formIn, pairAt, sizeIn, checkInput, checkOutput, emitInput, emitOutput, limitIn, budgetIn, findInput, findOutput, told, acceptedLine, asItIs, }
 use Rattle.laws.proofs.AnswerLaws.{check-passed, refused}
 use Rattle.laws.proofs.RefusalLaws.{table-long, plan-long}
 use Rattle.theorems.proofs.Demand3.{opened-given}

@@ -1,6 +1,5 @@
 // Search for a plan: the table opened, sought through, and the answer for a text of the caller's size.
 ghost use mathlib.Core.Path.{_≡_};
-ghost use Prim.Native.Nat.{_≤_};
 ghost use lib.ListN.{length};
 ghost use Rattle.basics.specs.Answers.{after};
 ghost use Rattle.rules.specs.Refusals.{searchNumber, searchPlan, textFound, written};

@@ -1,7 +1,7 @@
 // A walk's operators in memory, in turn: of each the row and the position. Only this crate knows where they stand.
 ghost use mathlib.Core.Path.{_≡_};
 ghost use Prim.Native.Nat.{_+_, _*_, _≤_, _<_};
-ghost use lib.ListN.{length, getD};
+ghost use lib.ListN.{length};
 ghost use Rattle.rules.specs.Limits.{mostBound};
 ghost use Rattle.rows.specs.Sizes.{mostRows};
 ghost use Rattle.trail.specs.Trails.{trailCells, rowIn, positionIn, Marked};

@@ -6,7 +6,7 @@ use mathlib.Core.List.{List, [], _∷_, _++_, tail}
 use mathlib.Core.Option.{none, some}
 use native.Mathlib.Numerals.{add-one}
 use native.Mathlib.Omega.{arith}
-use native.Mathlib.Decide.{decLe, decLt, ℕ-discrete}
+use native.Mathlib.Decide.{decLe, ℕ-discrete}
 use lib.ListN.{length, getD, set, length-set}
 use lib.Seq.{getD-set-same, getD-set-other}
 use Rattle.basics.specs.Lists.{rows}
@@ -25,8 +25,7 @@ use Rattle.rows.specs.Sizes.{mostRows, stackCells}
 use Rattle.rows.specs.Stacks.{stackOf}
 use Rattle.rows.proofs.StackLaws.{stack-height, stack-pop, stack-push}
 use Rattle.trail.specs.Trails.{trailCells, rowIn, positionIn, marked, Marked}
-use Rattle.trail.proofs.TrailLaws.{marked-more}
-use Rattle.links.specs.Links.{rowCount, nextIn, firstIn, Leads, Linked}
+use Rattle.links.specs.Links.{rowCount, nextIn, Leads, Linked}
 use Rattle.links.proofs.LinkLaws.{few-rows}
 use Rattle.walks.specs.Levels.{Level, operatorOf, operatorsOf, restOf, ahead, allOf}
 use Rattle.walks.proofs.PickLaws.{on-to, none-on-top, none-empty, from-none, from-off}

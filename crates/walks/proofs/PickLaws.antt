@@ -1,7 +1,7 @@
 -- The choices in a state by row number, and rows that are passed over because their task is not on top.
 use Prim.Native.Nat.{ℕ, zero, suc, _+_, _-_, _≤_, _<_}
 use mathlib.Core.Path.{_≡_, refl, sym, ap, subst, _∙_}
-use mathlib.Core.Bool.{Bool, true, false, _&&_, cond}
+use mathlib.Core.Bool.{Bool, true, false, cond}
 use mathlib.Core.List.{List, [], _∷_, _++_}
 use native.Mathlib.Omega.{arith}
 use native.Mathlib.Decide.{decLt, ℕ-discrete}
@@ -9,11 +9,11 @@ use lib.Dec.{T, ltb, leb, eqb, eqb→eq, leb→le}
 use Rattle.rules.specs.Limits.{mostTasks}
 use Rattle.rules.specs.Tables.{Table, actionCount, methodCount, method}
 use Rattle.rules.specs.Progression.{State, Step, act, mth, height, onTop, fits, enabled, allowed, next, allAllowed}
-use Rattle.rules.specs.Operators.{Operator, company, expand, taskOf, positions, emitted, applies}
+use Rattle.rules.specs.Operators.{Operator, expand, taskOf, positions, emitted, applies}
 use Rattle.laws.specs.Valid.{Valid}
 use Rattle.laws.specs.Steps.{stepAt}
 use Rattle.laws.proofs.TestLaws.{and-l, and-r}
-use Rattle.laws.proofs.StepNumbers.{step-action, step-method, by-step}
+use Rattle.laws.proofs.StepNumbers.{step-action, step-method}
 use Rattle.rules.specs.Searches.{may}
 use Rattle.rules.specs.Walks.{here, picks, choices}
 use Rattle.links.specs.Links.{rowCount, Leads}

@@ -11,9 +11,9 @@ use Rattle.rules.specs.Operators.{Operator}
 use Rattle.rules.specs.Searches.{may, led, complete}
 use Rattle.rules.specs.Walks.{here, picks, choices, Walked, nothing, hit, behind, after, pickOf, orElse, among, walk}
 use Rattle.laws.specs.Steps.{stepAt}
-use Rattle.links.specs.Links.{rowCount, Leads}
+use Rattle.links.specs.Links.{rowCount}
 use Rattle.walks.specs.Levels.{from, restOf}
-use Rattle.walks.proofs.PickLaws.{choices-rows, on-to, from-on, from-off}
+use Rattle.walks.proofs.PickLaws.{choices-rows, from-on}
 
 module _ (b f : ℕ) (t : Table) where
   -- A walk is all that is left from the first row on.

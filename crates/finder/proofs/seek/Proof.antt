@@ -11,7 +11,7 @@ use Rattle.plan_text.proofs.PlanLineLaws.{small-each}
 use Rattle.rows.proofs.RowLaws.{row-ok}
 use Rattle.words.specs.Words.{tableOf}
 use Rattle.finder.proofs.FinderLaws.{walk-over, walk-none, walk-found, found-small, refusal-found}
-use mathlib.Core.Path.{_≡_, refl, sym, ap, subst, _∙_}
+use mathlib.Core.Path.{refl, sym, ap, subst, _∙_}
 use borrow.Author.Needs.{needs}
 use Rattle.finder.proofs.seek.Statement.{statement}
 use Rattle.finder.proofs.seek.Tie as tie

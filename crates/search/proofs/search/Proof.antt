@@ -1,6 +1,6 @@
 use Rattle.spots.specs.Spots.{stateIn}
-use Prim.Native.Nat.{ℕ, _+_, _-_, _*_, _≤_}
-use mathlib.Core.Path.{_≡_, refl, sym, ap, _∙_}
+use Prim.Native.Nat.{_+_, _-_, _*_, _≤_}
+use mathlib.Core.Path.{refl, sym, ap, _∙_}
 use native.Mathlib.Omega.{arith}
 use borrow.Author.Tests.{not-true, not-false}
 use lib.ListN.{length, set, length-set}
@@ -11,7 +11,6 @@ use Rattle.links.proofs.LinkLaws.{task-low, task-is, few-rows}
 use Rattle.spots.specs.declared.Spot.{Spot}
 use Rattle.walks.proofs.TryLaws.{tried-off, tried-on}
 use Rattle.walks.proofs.GoingLaws.{Going, going-begins, going-ends, standing, going-back, row-there, some-high, task-there, next-later, going-past, going-over, going-found, going-down, going-again}
-use borrow.Author.Needs.{needs}
 use Rattle.search.proofs.search.Statement.{statement}
 use Rattle.search.proofs.search.Tie as tie
 

@@ -1,7 +1,7 @@
 use Rattle.finder.specs.Findings.{Figures, foundOf, roomForFigures}
 use Rattle.finder.specs.declared.Finding.{Finding}
 use Rattle.rules.specs.Reasons.{noRoom}
-use Rattle.basics.specs.Answers.{Answer, answer, refusal, after}
+use Rattle.basics.specs.Answers.{answer, refusal, after}
 use borrow.Author.Tests.{le-leb, lt-leb}
 use native.Mathlib.Omega.{arith}
 use mathlib.Core.Path.{_≡_, sym, ap, _∙_}

@@ -1,6 +1,5 @@
 use mathlib.Core.Path.{sym}
 use Rattle.laws.proofs.RefusalLaws.{limit-low, limit-high, budget-high, limits-in}
-use borrow.Author.Needs.{needs}
 use Rattle.seeking.proofs.limits_number.Statement.{statement}
 use Rattle.seeking.proofs.limits_number.Tie as tie
 

@@ -5,7 +5,7 @@ use Rattle.opening.proofs.OpeningLaws.{goes-on}
 use Rattle.laws.proofs.RefusalLaws.{limits-held}
 use Rattle.rules.specs.Refusals.{soughtIn, searchPlan}
 use Rattle.basics.specs.Answers.{Answer, after}
-use mathlib.Core.Path.{_≡_, sym, ap, _∙_}
+use mathlib.Core.Path.{sym, ap, _∙_}
 use borrow.Author.Needs.{needs}
 use Rattle.seeking.proofs.measure.Statement.{statement}
 use Rattle.seeking.proofs.measure.Tie as tie

@@ -6,7 +6,7 @@ use Rattle.laws.proofs.RefusalLaws.{limits-held}
 use Rattle.rules.specs.Refusals.{Sought, soughtIn, searchPlan, textFound, written}
 use Rattle.basics.specs.Answers.{Answer, after}
 use lib.ListN.{length}
-use mathlib.Core.Path.{_≡_, sym, ap, _∙_}
+use mathlib.Core.Path.{sym, ap, _∙_}
 use borrow.Author.Needs.{needs}
 use Rattle.seeking.proofs.write.Statement.{statement}
 use Rattle.seeking.proofs.write.Tie as tie

@@ -1,7 +1,6 @@
 use Rattle.rows.proofs.StackLaws.{stack-height}
 use mathlib.Core.Path.{_≡_, sym}
 use lib.ListN.{length}
-use mathlib.Core.List.{List}
 use Prim.Native.Nat.{ℕ}
 use Rattle.spots.specs.Spots.{stateIn, topRow}
 use Rattle.run.specs.Steps.{Point}

@@ -1,6 +1,6 @@
 use Rattle.spots.proofs.SpotLaws.{top-limit, top-empty, top-strange, top-first}
 use Rattle.links.specs.Links.{firstIn}
-use mathlib.Core.Path.{ap, sym, _∙_}
+use mathlib.Core.Path.{ap, _∙_}
 use native.Mathlib.Omega.{arith}
 use borrow.Author.Needs.{needs}
 use Rattle.spots.proofs.top_row.Statement.{statement}

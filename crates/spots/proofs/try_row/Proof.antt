@@ -5,7 +5,7 @@ use Rattle.facts.specs.Sets.{setOf}
 use Rattle.rules.specs.Facts.{holds, changed}
 use borrow.Author.Tests.{not-true, not-false}
 use native.Mathlib.Omega.{arith}
-use mathlib.Core.Path.{_≡_, sym, ap, _∙_}
+use mathlib.Core.Path.{sym, ap, _∙_}
 use Prim.Native.Nat.{ℕ, _+_, _-_, _≤_}
 use borrow.Author.Needs.{needs}
 use Rattle.spots.proofs.try_row.Statement.{statement}
