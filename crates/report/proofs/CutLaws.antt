@@ -17,7 +17,7 @@ use Rattle.rules.specs.Sections.{problemText}
 use Rattle.rules.specs.Plans.{linesOf}
 use Rattle.rules.specs.Checks.{checkLines}
 use Rattle.rules.specs.Refusals.{boundFormed, passed, tableRead, opened, planNumber, wholeProblem, checkPlan, searchNumber, planText, soughtIn, findPlan}
-use Rattle.rules.specs.Programs.{boundIn, formIn, pairAt, sizeIn, checkInput, checkOutput, emitInput, emitOutput, limitIn, budgetIn, findInput, findOutput, told, acceptedLine, asItIs, }
+use Rattle.rules.specs.Programs.{boundIn, formIn, pairAt, sizeIn, checkInput, checkOutput, emitInput, emitOutput, limitIn, budgetIn, findInput, findOutput, told, acceptedLine, asItIs}
 use Rattle.laws.proofs.AnswerLaws.{check-passed, refused}
 use Rattle.laws.proofs.RefusalLaws.{table-long, plan-long}
 use Rattle.theorems.proofs.Demand3.{opened-given}
