@@ -11,7 +11,8 @@ use Rattle.trail.specs.Trails.{operatorIn}
 abbrev pub lineText : Operator → List ℕ
 lineText o = textOf o ++ (10 ∷ [])
 
--- The bracket, the letter and a number; all of a line.
+-- The bracket, the letter and a number of three digits; all of a line, its position of three digits too. That a plan found has two there
+-- at most is known above (`sought`).
 abbrev pub nameBytes : ℕ
 nameBytes = 5
 

@@ -87,7 +87,7 @@ pub fn past(at: Spot, links: &[u16]) -> Spot
     }
 }
 
-// Whether a row's operator was applied, and the facts and the height after it, or as they were.
+// Whether a row's operator was applied, and where it was, the facts and the height after it.
 pub struct Tried {
     pub applied: bool,
     pub facts: Set,
