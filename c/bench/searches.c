@@ -1,13 +1,12 @@
 /* Writes the searches that are counted, each as the finding program's input behind its length in two bytes, low first.
  *   searches million FORM   one, of 1,000,000 operators: all that are tried can be applied, and the limit ends every list
- *   searches drawn FORM     those of tables drawn at random, with tries that are refused, dead ends and plans */
+ *   searches drawn FORM     those of tables drawn at random, as they come: plans, dead ends, tries that are refused */
 #include "compare/generate.h"
-#include "plain/plain.h"
 #include "plain/programs.h"
 
 int strcmp(const char *one, const char *other);
 
-enum { ACTIONS = 2, MILLION = 1000000, DRAWN = 40, DRAWN_BUDGET = 10000, DRAWN_LEAST = 1000 };
+enum { ACTIONS = 2, MILLION = 1000000, DRAWN = 100, DRAWN_BUDGET = 100000 };
 
 static struct model model;
 static struct fields fields;
@@ -63,27 +62,17 @@ static void put_million(unsigned form)
     put_search((struct search){64, form, form ? level : 2 * level, MILLION});
 }
 
-static int is_short(struct search s)
-{
-    static uint8_t text[2560];
-    struct plain_found a = plain_search(s.bound, s.form, s.limit, DRAWN_LEAST, table.bytes, table.length, text, sizeof text);
-    return a.number == 0 || a.number == 18;
-}
-
-/* The goal is part of what some walk ends with. Searches that are over soon would count the reading of tables. */
+/* The goal is part of what some walk ends with. */
 static void put_drawn(unsigned form)
 {
     struct draws seeds = {20261115};
-    for (unsigned kept = 0; kept < DRAWN;) {
+    for (unsigned k = 0; k < DRAWN; k++) {
         struct draws d = {draw(&seeds)};
         struct search s = {4 + below(&d, 12), form, 10 + below(&d, 40), DRAWN_BUDGET};
         draw_model(&model, &d, once_in(&d, 2) ? SMALL : MIDDLE);
         model.goal = walk_model(&plan, &model, s.bound, form, s.limit, 0, &d).facts & draw(&d);
         make_table(&d);
-        if (is_short(s))
-            continue;
         put_search(s);
-        kept++;
     }
 }
 

@@ -14,7 +14,7 @@ pub extern "C" fn ildorzhen_expand_number(
 ) -> u64
     ensures { λ r. ⌜ r ≡ numberOf (expandPlan bound form (now (table .entry)) (now (plan .entry)) (length (now (steps .entry)))) ⌝ }
 {
-    crate::reply::number(entries::expanding::measure(bound, form, table, plan, steps.len()))
+    replies::number(judging::expanding::measure(bound, form, table, plan, steps.len()))
 }
 
 #[no_mangle]
@@ -27,7 +27,7 @@ pub extern "C" fn ildorzhen_expand_place(
 ) -> u64
     ensures { λ r. ⌜ r ≡ placeOf (expandPlan bound form (now (table .entry)) (now (plan .entry)) (length (now (steps .entry)))) ⌝ }
 {
-    crate::reply::place(entries::expanding::measure(bound, form, table, plan, steps.len()))
+    replies::place(judging::expanding::measure(bound, form, table, plan, steps.len()))
 }
 
 #[no_mangle]
@@ -40,7 +40,7 @@ pub extern "C" fn ildorzhen_expand_length(
 ) -> u64
     ensures { λ r. ⌜ r ≡ valueOf length (expandPlan bound form (now (table .entry)) (now (plan .entry)) (length (now (steps .entry)))) ⌝ }
 {
-    crate::reply::value(entries::expanding::measure(bound, form, table, plan, steps.len()))
+    replies::value(judging::expanding::measure(bound, form, table, plan, steps.len()))
 }
 
 #[no_mangle]
@@ -54,5 +54,5 @@ pub extern "C" fn ildorzhen_expand_write(
     ensures { λ r. ⌜ r ≡ valueOf length (expandPlan bound form (now (table .entry)) (now (plan .entry)) (length (now (steps .entry)))) ⌝ }
     ensures { λ _. ⌜ now (steps .exit) ≡ written (now (steps .entry)) 0 (expandPlan bound form (now (table .entry)) (now (plan .entry)) (length (now (steps .entry)))) ⌝ }
 {
-    crate::reply::value(entries::expanding::write(bound, form, table, plan, steps))
+    replies::value(judging::expanding::write(bound, form, table, plan, steps))
 }

@@ -7,19 +7,19 @@ ghost use Rattle.rules.specs.Refusals.{findLeast};
 pub extern "C" fn ildorzhen_least_number(table: &[u8]) -> u64
     ensures { λ r. ⌜ r ≡ numberOf (findLeast (now (table .entry))) ⌝ }
 {
-    crate::reply::number(entries::least_bound::find(table))
+    replies::number(gauging::find_least(table))
 }
 
 #[no_mangle]
 pub extern "C" fn ildorzhen_least_place(table: &[u8]) -> u64
     ensures { λ r. ⌜ r ≡ placeOf (findLeast (now (table .entry))) ⌝ }
 {
-    crate::reply::place(entries::least_bound::find(table))
+    replies::place(gauging::find_least(table))
 }
 
 #[no_mangle]
 pub extern "C" fn ildorzhen_least_bound(table: &[u8]) -> u64
     ensures { λ r. ⌜ r ≡ valueOf itself (findLeast (now (table .entry))) ⌝ }
 {
-    crate::reply::value(entries::least_bound::find(table))
+    replies::value(gauging::find_least(table))
 }

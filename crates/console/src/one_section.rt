@@ -15,7 +15,7 @@ pub extern "C" fn ildorzhen_section_number(
 ) -> u64
     ensures { λ r. ⌜ r ≡ numberOf (oneSection bound form (now (table .entry)) index (length (now (text .entry))) at) ⌝ }
 {
-    crate::reply::number(entries::one_section::measure(bound, form, table, index, text.len(), at))
+    replies::number(placing::measure(bound, form, table, index, text.len(), at))
 }
 
 #[no_mangle]
@@ -29,7 +29,7 @@ pub extern "C" fn ildorzhen_section_place(
 ) -> u64
     ensures { λ r. ⌜ r ≡ placeOf (oneSection bound form (now (table .entry)) index (length (now (text .entry))) at) ⌝ }
 {
-    crate::reply::place(entries::one_section::measure(bound, form, table, index, text.len(), at))
+    replies::place(placing::measure(bound, form, table, index, text.len(), at))
 }
 
 #[no_mangle]
@@ -43,7 +43,7 @@ pub extern "C" fn ildorzhen_section_length(
 ) -> u64
     ensures { λ r. ⌜ r ≡ valueOf length (oneSection bound form (now (table .entry)) index (length (now (text .entry))) at) ⌝ }
 {
-    crate::reply::value(entries::one_section::measure(bound, form, table, index, text.len(), at))
+    replies::value(placing::measure(bound, form, table, index, text.len(), at))
 }
 
 #[no_mangle]
@@ -58,5 +58,5 @@ pub extern "C" fn ildorzhen_section_write(
     ensures { λ r. ⌜ r ≡ valueOf length (oneSection bound form (now (table .entry)) index (length (now (text .entry))) at) ⌝ }
     ensures { λ _. ⌜ now (text .exit) ≡ written (now (text .entry)) at (oneSection bound form (now (table .entry)) index (length (now (text .entry))) at) ⌝ }
 {
-    crate::reply::value(entries::one_section::write(bound, form, table, index, text, at))
+    replies::value(placing::write(bound, form, table, index, text, at))
 }

@@ -7,19 +7,19 @@ ghost use Rattle.rules.specs.Refusals.{countSections};
 pub extern "C" fn ildorzhen_sections_number(bound: u64, form: u64, table: &[u8]) -> u64
     ensures { λ r. ⌜ r ≡ numberOf (countSections bound form (now (table .entry))) ⌝ }
 {
-    crate::reply::number(entries::sections::count(bound, form, table))
+    replies::number(gauging::count_sections(bound, form, table))
 }
 
 #[no_mangle]
 pub extern "C" fn ildorzhen_sections_place(bound: u64, form: u64, table: &[u8]) -> u64
     ensures { λ r. ⌜ r ≡ placeOf (countSections bound form (now (table .entry))) ⌝ }
 {
-    crate::reply::place(entries::sections::count(bound, form, table))
+    replies::place(gauging::count_sections(bound, form, table))
 }
 
 #[no_mangle]
 pub extern "C" fn ildorzhen_sections_count(bound: u64, form: u64, table: &[u8]) -> u64
     ensures { λ r. ⌜ r ≡ valueOf itself (countSections bound form (now (table .entry))) ⌝ }
 {
-    crate::reply::value(entries::sections::count(bound, form, table))
+    replies::value(gauging::count_sections(bound, form, table))
 }

@@ -1,15 +1,15 @@
 // The finding program's work on its input: finding the parts, and writing the text of the plan found, or the refusal as one line.
-ghost use Prim.Native.Nat.{ℕ, _≤_, _<_};
+ghost use Prim.Native.Nat.{ℕ, _≤_};
 ghost use mathlib.Core.Path.{_≡_};
 ghost use mathlib.Core.List.{List};
-ghost use lib.ListN.{length};
+ghost use lib.ListN.{length, take};
 ghost use Rattle.rules.specs.Refusals.{textFound, written};
 ghost use Rattle.rules.specs.Programs.{budgetIn, findInput, findOutput};
 ghost use Rattle.sought.specs.Findings.{mostFoundBytes};
 ghost use Rattle.finder.specs.Findings.{foundOf, figures};
 ghost use Rattle.text.specs.Appends.{Appends};
 ghost use Rattle.report.specs.Inputs.{mostFindInput, countOf, ReadFrom};
-ghost use Rattle.report.specs.Parts.{Moves, Says};
+ghost use Rattle.report.specs.Parts.{nextOf, sizeOf};
 use finder::Finding;
 use report::Input;
 use report::Part;
@@ -21,38 +21,24 @@ pub const MOST_INPUT: usize = 8 + MOST_TABLE_BYTES + 1;
 // Room for the text of any plan found. The contracts say it by the name of specs/Findings of `sought`.
 const MOST_FOUND_BYTES: usize = 2560;
 
-// All that is written is one text.
-const PARTS: usize = 1;
-
 // What the program does with what it has read into the buffer.
 pub fn answer(buffer: &[u8], input: Input)
     requires { ⌜ (mostFindInput ≤ length (now buffer)) × (countOf input ≤ length (now buffer)) ⌝ }
 {
     let mut out = [0u8; MOST_FOUND_BYTES];
-    send_parts(buffer, input, &mut out);
+    let part = put_part(buffer, input, &mut out);
+    report::send(&out, part);
 }
 
-// Each part is sent as it is handed over.
-fn send_parts(buffer: &[u8], input: Input, out: &mut [u8])
+// All that is written of the input from which the buffer was filled, as one part.
+fn put_part(buffer: &[u8], input: Input, out: &mut [u8]) -> Part
     requires { ⌜ (mostFindInput ≤ length (now buffer)) × (countOf input ≤ length (now buffer)) × (mostFoundBytes ≤ length (now out)) ⌝ }
-{
-    let mut next = 0;
-    while next < PARTS {
-        let part = put_part(buffer, input, next, out);
-        next = report::send(out, part);
-    }
-}
-
-// The next part of what is written of the input from which the buffer was filled.
-fn put_part(buffer: &[u8], input: Input, next: usize, out: &mut [u8]) -> Part
-    requires { ⌜ (mostFindInput ≤ length (now buffer)) × (countOf input ≤ length (now buffer)) × (mostFoundBytes ≤ length (now out)) × (next < 1) ⌝ }
-    ensures { λ r. ⌜ ((s : List ℕ) → ReadFrom s (now (buffer .entry)) input → Says (λ _. findOutput s) next (now (out .exit)) r) ⌝ }
-    ensures { λ r. ⌜ Moves 1 next (now (out .exit)) r ⌝ }
-    ensures { λ _. ⌜ length (now (out .exit)) ≡ length (now (out .entry)) ⌝ }
+    ensures { λ r. ⌜ ((s : List ℕ) → ReadFrom s (now (buffer .entry)) input → take (sizeOf r) (now (out .exit)) ≡ findOutput s) ⌝ }
+    ensures { λ r. ⌜ (nextOf r ≡ 1) × (sizeOf r ≤ length (now (out .exit))) × (length (now (out .exit)) ≡ length (now (out .entry))) ⌝ }
 {
     let n = report::count(input);
     let size = put_text(&buffer[..n], out);
-    report::part_of(PARTS, size)
+    report::part_of(1, size)
 }
 
 // The text of the plan found, or the line of the refusal.

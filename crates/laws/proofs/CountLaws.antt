@@ -1,18 +1,18 @@
 -- How many operators and sections there are.
-use mathlib.Core.Path.{_≡_, refl, sym, ap, ap₂, _∙_}
+use mathlib.Core.Path.{_≡_, ap₂, _∙_}
 use mathlib.Core.Bool.{Bool, true, false, cond}
-use mathlib.Core.List.{List, [], _∷_, _++_, map}
+use mathlib.Core.List.{List, [], _∷_}
 use Prim.Native.Nat.{ℕ, zero, suc, _+_, _-_, _*_, _≤_, _<_}
 use native.Mathlib.Nat.{mul-comm, mul-le-mul-right}
 use native.Mathlib.Omega.{arith}
 use borrow.Author.Tests.{lt-ltb, ne-eqb}
-use lib.Dec.{ltb, eqb}
+use lib.Dec.{ltb}
 use lib.ListN.{length, length-append, length-map}
 use Rattle.rules.specs.Limits.{mostActions, mostMethods, mostBound}
-use Rattle.basics.specs.Lists.{rows, upto, sumTo}
-use Rattle.rules.specs.Tables.{Table, actionCount, methodCount, factCount, method}
+use Rattle.basics.specs.Lists.{upto, sumTo}
+use Rattle.rules.specs.Tables.{Table, actionCount, methodCount, method}
 use Rattle.rules.specs.Progression.{Step, act, mth, leading, prefix, remain}
-use Rattle.rules.specs.Operators.{Operator, joined, highest, positions, risingFrom1, operatorsOf}
+use Rattle.rules.specs.Operators.{joined, highest, positions, risingFrom1, operatorsOf}
 use Rattle.rules.specs.Problems.{variableCount, problemOf}
 use Rattle.rules.specs.Sections.{sectionsOf}
 use Rattle.version3.specs.Spelling.{spell}

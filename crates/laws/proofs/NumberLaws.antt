@@ -1,17 +1,16 @@
 -- Laws on the definitions of one number. Assumes nothing.
 use mathlib.Core.Path.{_≡_, refl, ap, sym, subst, _∙_}
 use mathlib.Core.List.{List, [], _∷_}
-use Prim.Native.Nat.{ℕ, zero, suc, _+_, _-_, _*_, _%_, _^_, _≤_, _<_}
+use Prim.Native.Nat.{ℕ, suc, _+_, _-_, _*_, _%_, _^_, _≤_, _<_}
 use native.Mathlib.Numerals.{add-one}
 use native.Mathlib.Omega.{arith}
-use borrow.Author.Tests.{lt-ltb, le-ltb, eq-eqb, ne-eqb, eqb-true, eqb-false, leb-true, ltb-true}
-use native.Mathlib.Nat.{pow-succ', pow-le-pow-right, eq-zero-or-pos, one-mul}
+use borrow.Author.Tests.{lt-ltb, le-ltb, ne-eqb, eqb-true, eqb-false, leb-true, ltb-true}
+use native.Mathlib.Nat.{pow-succ', pow-le-pow-right, one-mul}
 use lib.Pow.{shl-exact}
 use native.Mathlib.Decide.{decLt}
-use mathlib.Core.Logic.{⊎-elim}
 use mathlib.Core.Bool.{Bool, true, false, cond}
 use lib.Dec.{ltb, leb, eqb, lit<}
-use lib.ListN.{length, take, drop, getD, drop-of-length-le, length-drop}
+use lib.ListN.{length, drop, getD, drop-of-length-le, length-drop}
 use lib.Seq.{drop-cons, slice, slice-cons, slice-empty, getD-drop}
 use Rattle.rules.specs.Reasons.{tableEnds, badNumber}
 use Rattle.rules.specs.Numbers.{groupsBefore, groupsValue, sound, numberAt, readNumber, inRange, ranged}

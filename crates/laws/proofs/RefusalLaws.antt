@@ -1,5 +1,5 @@
 -- The opening of a table, a check at a time: what is refused, and what passes. Room for a text.
-use mathlib.Core.Path.{_≡_, refl, ap, _∙_}
+use mathlib.Core.Path.{_≡_, refl, sym, ap, _∙_}
 use mathlib.Core.Bool.{Bool, true, false}
 use mathlib.Core.List.{List}
 use Prim.Native.Nat.{ℕ, _+_, _≤_, _<_}
@@ -9,7 +9,7 @@ use borrow.Author.Tests.{le-leb, lt-leb, eq-eqb, ne-eqb}
 use lib.Dec.{leb}
 use lib.ListN.{length}
 use lib.Seq.{sets}
-use Rattle.basics.specs.Answers.{answer, refusal, check, after, lengthOf}
+use Rattle.basics.specs.Answers.{Answer, answer, refusal, check, after, lengthOf}
 use Rattle.basics.specs.Readings.{Reading, got, bad}
 use Rattle.rules.specs.Limits.{mostBound, mostTableBytes, mostPlanBytes, mostLimit, mostBudget}
 use Rattle.rules.specs.Reasons.{badBound, badForm, tableTooLong, planTooLong, noRoom, badLimits}
@@ -125,6 +125,11 @@ module _ (size at : ℕ) (x : List ℕ) where
 pub stores-written : (old x : List ℕ) (at : ℕ) → at + length x ≤ length old → sets old at x ≡ written old at (answer x)
 unfolding written
 stores-written old x at h = stored old x at h
+
+-- A refusal leaves what was lent as it was.
+pub kept : (old : List ℕ) (at : ℕ) (x : Answer (List ℕ)) {number place : ℕ} → x ≡ refusal number place → old ≡ written old at x
+unfolding written
+kept old at x e = sym (ap (written old at) e)
 
 -- What there is to write has room by its length alone.
 pub room-length : (size at : ℕ) (x : List ℕ) → lengthOf (roomFor size at x) ≡ roomOf size at (length x)

@@ -5,7 +5,7 @@ use mathlib.Core.Bool.{Bool, true, false, not, cond, false≢true}
 use mathlib.Core.List.{List, [], _∷_, _++_}
 use mathlib.Core.Logic.{_≢_}
 use native.Mathlib.Omega.{arith}
-use lib.Dec.{T, eqb, ltb}
+use lib.Dec.{T, eqb}
 use lib.ListN.{length, getD, drop, length-append, length-drop, drop-of-length-le}
 use lib.Seq.{getD-drop, drop-drop, drop-cons, drop-append-add}
 use borrow.Author.Tests.{eqb-true, eqb-false, ne-eqb}
@@ -20,7 +20,7 @@ use Rattle.lines.specs.declared.Line.the-variants.{Op, Comment, Shape}
 use Rattle.lines.specs.Places.{shortestLine, smallAt, bracketed, positioned, kindOf, operatorAt, feedAt, lineAt}
 use Rattle.laws.specs.Steps.{kindStep, kindOperator}
 use Rattle.lines.specs.Lines.{Fed, Whole, IsLine}
-use Rattle.lines.proofs.LineLaws.{digit-range, small-none, small-one, small-zero, small-two, small-three, line-kind, after-kind, at-operator, at-other, at-comment}
+use Rattle.lines.proofs.LineLaws.{small-none, small-one, small-zero, small-two, small-three, line-kind, after-kind, at-operator, at-other, at-comment}
 
 -- The bytes from p on: cs, a line feed, rest.
 abbrev Ahead : List ℕ → List ℕ → ℕ → List ℕ → Type 0

@@ -1,17 +1,15 @@
 -- Joining the prefix of a method, a subtask at a time: what is left still gives the whole.
 use mathlib.Core.Path.{_≡_, refl, sym, ap, _∙_}
-use mathlib.Core.Bool.{Bool, true, false, cond}
 use mathlib.Core.List.{List, [], _∷_, map}
 use Prim.Native.Nat.{ℕ, zero, suc, _+_, _≤_, _<_}
 use native.Mathlib.Numerals.{add-one}
 use native.Mathlib.Omega.{arith}
 use borrow.Author.Tests.{lt-ltb, le-ltb}
-use lib.Dec.{ltb}
 use lib.ListN.{length, getD, drop, drop-of-length-le}
 use lib.Seq.{drop-cons}
 use Rattle.rules.specs.Tables.{Table, actionCount, action, method}
 use Rattle.rules.specs.Facts.{Join, noJoin, joinOne, joinFrom, joinOf}
-use Rattle.rules.specs.Progression.{leading, prefix, mth}
+use Rattle.rules.specs.Progression.{leading}
 use Rattle.rules.specs.Operators.{joined}
 use Rattle.facts.specs.Sets.{joinRead}
 use Rattle.operators.specs.Prefixes.{IsPrefix}

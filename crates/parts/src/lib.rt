@@ -67,7 +67,7 @@ fn put_variables(words: &[u64], bound: u64, out: &mut [u8], at: usize) -> usize
     let variables = problem::variable_count(words, bound);
     let mut next = at;
     for v in 0..variables {
-        next = frame::put_variable(words, bound, v, out, next);
+        next = variables::put_variable(words, bound, v, out, next);
     }
     next
 }
@@ -78,9 +78,9 @@ fn put_front(words: &[u64], bound: u64, form: u64, out: &mut [u8]) -> usize
     ensures { λ r. ⌜ Appends (now (out .entry)) 0 (frontText bound form (tableOf (now (words .entry)))) (now (out .exit)) r ⌝ }
     ensures { λ r. ⌜ r ≤ frontBytes ⌝ }
 {
-    let first = frame::put_preamble(words, bound, out, 0);
+    let first = variables::put_preamble(words, bound, out, 0);
     let next = put_variables(words, bound, out, first);
-    frame::put_middle(words, bound, form, out, next)
+    middle::put_middle(words, bound, form, out, next)
 }
 
 // The operators from a piece on, of as many steps as there is room for.

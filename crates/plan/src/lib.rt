@@ -1,4 +1,4 @@
-// A plan against a table: the check, line by line, and the step list where the plan is accepted.
+// A plan against a table: its check, and the step list where it is accepted.
 ghost use mathlib.Core.Path.{_≡_};
 ghost use Prim.Native.Nat.{_≤_};
 ghost use lib.ListN.{length};
@@ -9,10 +9,9 @@ ghost use Rattle.rules.specs.Refusals.{stepsFor, written};
 ghost use Rattle.words.specs.Words.{tableOf, Held};
 ghost use Rattle.run.specs.Runs.{Few};
 ghost use Rattle.step_list.specs.RowSteps.{StepsHeld};
-ghost use Rattle.plan.specs.Notes.{NotesHeld, noteBytes};
+ghost use Rattle.checker.specs.Notes.{NotesHeld};
+ghost use Rattle.plan.specs.NoteBytes.{noteBytes};
 use rules::Verdict;
-
-pub mod check;
 
 // No plan has more operators.
 const MOST_NOTES: usize = rules::limits::MOST_PLAN_BYTES / lines::SHORTEST_LINE;
@@ -55,6 +54,6 @@ pub fn judge(words: &[u64], bound: u64, form: u64, text: &[u8], steps: &mut [u8]
     let mut cells = [0u16; rows::ALL_CELLS];
     let mut notes = [0u16; MOST_NOTES];
     rows::prepare(words, bound, form, &mut ops, &mut cells);
-    let verdict = check::check(words, bound, form, &ops, &cells, text, &mut notes);
+    let verdict = checker::check(words, bound, form, &ops, &cells, text, &mut notes);
     hand_out(words, form, &ops, &cells, &notes, verdict, steps)
 }

@@ -42,9 +42,5 @@ pub part-moves : (all from n size : ℕ) (out : List ℕ) (r : Part) → (nextOf
 part-moves all from n size out r e h k l = record { some = omega (arith, e .0); most = omega (arith, e .0); size = omega (arith, e .1) }
 
 -- One part that is all there is to write, as its writer left it.
-module _ {x old new : List ℕ} {next size : ℕ} {r : Part} (h : next < 1) (e : (nextOf r ≡ 1) × (sizeOf r ≡ size)) (w : Appends old 0 x new size) where
-  pub only-says : Says (λ _. x) next new r
-  only-says = part-says (λ _. x) next 1 size new r e (only-part x next size h w)
-
-  pub only-moves : size ≤ length old → Moves 1 next new r × (length new ≡ length old)
-  only-moves l = (part-moves 1 next 1 size new r e h (omega arith) (omega (arith, w .size)), w .size)
+pub only-sent : {x old new : List ℕ} {n size : ℕ} {r : Part} → (nextOf r ≡ n) × (sizeOf r ≡ size) → Appends old 0 x new size → take (sizeOf r) new ≡ x
+only-sent {new = new} e w = ap (λ (k : ℕ). take k new) (e .1) ∙ w .text

@@ -1,8 +1,7 @@
 -- "Operators": which there are, what they stand for, and in what order.
-use Prim.Native.Nat.{ℕ, zero, suc, _+_, _-_}
+use Prim.Native.Nat.{ℕ, suc, _+_, _-_}
 use mathlib.Core.Bool.{Bool, _&&_, cond}
 use mathlib.Core.List.{List, [], _∷_, _++_, map}
-use lib.ListN.{length}
 use lib.Dec.{eqb, ltb, leb}
 use Rattle.basics.specs.Lists.{rows, upto}
 use Rattle.rules.specs.Tables.{Table, actionCount, methodCount, action, method}

@@ -1,4 +1,3 @@
 pub mod RowLaws
 pub mod StepLaws
 pub mod RowIndexLaws
-pub mod EndLaws

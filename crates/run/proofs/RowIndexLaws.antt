@@ -1,5 +1,5 @@
 -- The row of an operator: what its number says of the table.
-use mathlib.Core.Path.{_≡_, refl, sym, ap, _∙_}
+use mathlib.Core.Path.{_≡_, refl, ap}
 use mathlib.Core.Bool.{Bool, true, false, cond}
 use mathlib.Core.List.{List}
 use Prim.Native.Nat.{ℕ, zero, suc, _+_, _-_, _<_, _≤_}
@@ -8,8 +8,8 @@ use borrow.Author.Tests.{ltb-true, ltb-false, le-ltb}
 use lib.Dec.{ltb}
 use Rattle.rules.specs.Tables.{Table, actionCount, methodCount}
 use Rattle.rules.specs.Progression.{Step, act, mth}
-use Rattle.laws.specs.Steps.{stepAt, kindStep}
-use Rattle.rows.specs.Rows.{Row, rowOf, rowAt, Prepared}
+use Rattle.laws.specs.Steps.{kindStep}
+use Rattle.rows.specs.Rows.{rowOf, rowAt, Prepared}
 use Rattle.run.specs.Steps.{Known}
 use Rattle.run.specs.Ready.{rowIndex, RowOf}
 

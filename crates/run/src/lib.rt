@@ -1,20 +1,17 @@
-// A run: how it begins, what it does with one operator, by its prepared row, and how it ends.
+// A run: how it begins, and what it does with one operator, by its prepared row.
 ghost use mathlib.Core.Path.{_≡_};
-ghost use mathlib.Core.List.{List};
-ghost use Prim.Native.Nat.{ℕ, _<_, _≤_};
+ghost use Prim.Native.Nat.{_<_, _≤_};
 ghost use lib.ListN.{length};
 ghost use Rattle.rules.specs.Limits.{mostActions, mostMethods, mostBound};
-ghost use Rattle.rules.specs.Checks.{verdictOf, finish};
 ghost use Rattle.laws.specs.Steps.{kindStep, kindOperator};
 ghost use Rattle.words.specs.Words.{tableOf, Held};
 ghost use Rattle.rows.specs.Sizes.{stackCells};
 ghost use Rattle.rows.specs.Rows.{rowAt, RowOk};
-ghost use Rattle.run.specs.Steps.{startPoint, checkAt, stepRow, documentStep};
-ghost use Rattle.run.specs.Runs.{mostOperators, ProgressOk, Landed, pointOf, turnedOf, Few, progressOf, runPoint, steppedOf};
+ghost use Rattle.run.specs.Steps.{startPoint, stepRow, documentStep};
+ghost use Rattle.run.specs.Runs.{mostOperators, ProgressOk, Landed, pointOf, turnedOf, progressOf, runPoint, steppedOf};
 ghost use Rattle.run.specs.Ready.{Ready, rowIndex, RowOf};
 use facts::Set;
 use rows::row;
-use rules::Verdict;
 use rules::reasons;
 
 // What a run counts, its stack apart.
@@ -175,22 +172,6 @@ pub fn begin(words: &[u64], stack: &mut [u16; row::STACK]) -> Progress
         steps: 0,
         cost: 0,
     }
-}
-
-// The end of a plan of so many lines.
-pub fn conclude(words: &[u64], t: Progress, lines: u64) -> Verdict
-    requires { ⌜ Held (now words) × ProgressOk t ⌝ }
-    ensures { λ r. ⌜ Few r ⌝ }
-    ensures { λ r. ⌜ ((cells : List ℕ) → verdictOf r ≡ finish (tableOf (now (words .entry))) (checkAt lines (pointOf t cells))) ⌝ }
-{
-    if t.height != 0 {
-        return Verdict::Refused(reasons::STACK_NOT_EMPTY, lines);
-    }
-    let facts = t.facts;
-    if !facts::holds(words::goal_facts(words), facts) {
-        return Verdict::Refused(reasons::GOAL_MISSING, lines);
-    }
-    Verdict::Accepted(t.cost, t.operators, t.steps)
 }
 
 // A run by value.

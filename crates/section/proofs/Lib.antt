@@ -1,2 +1,1 @@
 mod ChosenLaws
-mod FitLaws

@@ -2,30 +2,11 @@
 ghost use mathlib.Core.Path.{_≡_};
 ghost use lib.ListN.{length};
 ghost use Rattle.basics.specs.Answers.{after};
-ghost use Rattle.rules.specs.Refusals.{searchNumber, searchPlan, textFound, written};
+ghost use Rattle.rules.specs.Refusals.{searchPlan, textFound, written};
 ghost use Rattle.finder.specs.Findings.{foundOf, figures, roomForFigures};
 use finder::Finding;
 use opening::Opening;
-use rules::limits::MOST_BUDGET;
-use rules::limits::MOST_LIMIT;
-use rules::reasons::BAD_LIMITS;
 use rules::reasons::NO_ROOM;
-
-// L and the budget are the search's own check: told after the form and before the table's length.
-fn limits_number(limit: u64, budget: u64) -> u64
-    ensures { λ r. ⌜ r ≡ searchNumber limit budget ⌝ }
-{
-    if limit < 1 {
-        return BAD_LIMITS;
-    }
-    if MOST_LIMIT < limit {
-        return BAD_LIMITS;
-    }
-    if MOST_BUDGET < budget {
-        return BAD_LIMITS;
-    }
-    0
-}
 
 // What a finding says of a text of so many bytes.
 fn finding_for(finding: Finding, size: u64) -> Finding
@@ -47,7 +28,7 @@ pub fn measure(bound: u64, form: u64, limit: u64, budget: u64, table: &[u8], siz
     ensures { λ r. ⌜ foundOf r ≡ figures (searchPlan bound form limit budget (now (table .entry)) size) ⌝ }
 {
     let mut words = [0u64; words::SIZE];
-    let early = limits_number(limit, budget);
+    let early = own_checks::limits_number(limit, budget);
     match opening::open(bound, form, early, table, 0, &mut words) {
         Opening::Refused(number, place) => Finding::Refused(number, place),
         Opening::Opened => {
@@ -71,7 +52,7 @@ pub fn write(
     ensures { λ _. ⌜ now (text .exit) ≡ written (now (text .entry)) 0 (textFound (searchPlan bound form limit budget (now (table .entry)) (length (now (text .entry))))) ⌝ }
 {
     let mut words = [0u64; words::SIZE];
-    let early = limits_number(limit, budget);
+    let early = own_checks::limits_number(limit, budget);
     match opening::open(bound, form, early, table, 0, &mut words) {
         Opening::Refused(number, place) => Finding::Refused(number, place),
         Opening::Opened => {

@@ -11,6 +11,7 @@ use Rattle.rules.specs.Progression.{State, Step, act, mth, height, allAllowed}
 use Rattle.rules.specs.Operators.{Operator, expand, emitted, applies}
 use Rattle.rules.specs.Searches.{may, led, Applicable, precedes, Earlier}
 use Rattle.laws.proofs.TestLaws.{and-l, and-r}
+use Rattle.sought.specs.Findings.{ShorterFirst}
 
 -- ---- steps
 
@@ -53,6 +54,11 @@ one-way (o ∷ os) (p ∷ ps) (inl h) (inl g) = steps-differ (o .what) (p .what)
 one-way (o ∷ os) (p ∷ ps) (inl h) (inr g) = step-once (o .what) (p .what) (sym (what-of (g .0))) h
 one-way (o ∷ os) (p ∷ ps) (inr h) (inl g) = step-once (p .what) (o .what) (sym (what-of (h .0))) g
 one-way (o ∷ os) (p ∷ ps) (inr h) (inr g) = one-way os ps (h .1) (g .1)
+
+-- A list comes before its continuations.
+pub shorter-first : ShorterFirst
+shorter-first [] o more = tt
+shorter-first (p ∷ os) o more = inr (refl, shorter-first os o more)
 
 pub not-itself : (os ps : List Operator) → os ≡ ps → Earlier os ps → ⊥
 not-itself os ps e h =

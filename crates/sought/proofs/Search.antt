@@ -3,19 +3,19 @@ use Prim.Native.Nat.{ℕ, _≤_}
 use mathlib.Core.Path.{_≡_, refl, sym, ap, subst}
 use mathlib.Core.Logic.{_⊎_, inl, inr, _↔_}
 use mathlib.Core.Bool.{Bool}
-use mathlib.Core.List.{List, [], _∷_}
+use mathlib.Core.List.{List, [], _∷_, _++_}
 use mathlib.Core.Option.{Option, none, some}
 use native.Mathlib.Omega.{arith}
-use lib.ListN.{length}
+use lib.ListN.{length, length-append}
 use Rattle.basics.specs.Lists.{Among}
 use Rattle.rules.specs.Tables.{Table}
-use Rattle.rules.specs.Progression.{begin}
+use Rattle.rules.specs.Progression.{State, begin}
 use Rattle.rules.specs.Operators.{Operator}
-use Rattle.rules.specs.Searches.{Applicable, Earlier, PlanWithin, IsPlan, NoLater, Applied, NumberApplied}
+use Rattle.rules.specs.Searches.{led, Applicable, Earlier, PlanWithin, Found, IsPlan, NoLater, Applied, NumberApplied}
 use Rattle.rules.specs.Walks.{Walked, walk}
 use Rattle.sought.specs.Findings.{NothingApplies}
 use Rattle.sought.proofs.AmongLaws.{no-longer}
-use Rattle.sought.proofs.OrderLaws.{one-order}
+use Rattle.sought.proofs.OrderLaws.{shorter-first, one-order}
 use Rattle.sought.proofs.TreeLaws.{tree, tree-sized, sized-tree, tree-rises}
 use Rattle.sought.proofs.SeekLaws.{seek, passed, good, walk-seek, First, seeks, passed-count, passed-distinct, passed-exactly}
 
@@ -70,6 +70,21 @@ module _ (b f : ℕ) (t : Table) (l : ℕ) where
   -- "exactly the number of applicable operator lists of 1 to L operators .. that come no later than the plan found".
   pub walk-count : NumberApplied b f t l (walk b f t l (begin t) .plan) (walk b f t l (begin t) .count)
   walk-count = subst (λ (w : Walked). NumberApplied b f t l (w .plan) (w .count)) (sym (walk-seek b f t l (begin t))) seek-count
+
+  -- Every list that the plan found begins with comes before it, and so it is counted.
+  pub beginning-counted : (os : List Operator) (o : Operator) (more : List Operator) → Found b f t l (os ++ (o ∷ more)) → 1 ≤ length os
+      → Applied b f t l (some (os ++ (o ∷ more))) os
+  beginning-counted os o more q n =
+      record {
+        applicable = front (begin t) os (o ∷ more) (q .plan .accepted .applicable);
+        some = n;
+        short = omega (arith, q .plan .short, length-append os (o ∷ more));
+        no-later = inr (shorter-first os o more);
+      }
+    where
+      front : (s : State) (os ps : List Operator) → Applicable b f t s (os ++ ps) → Applicable b f t s os
+      front s [] ps h = tt
+      front s (p ∷ os) ps h = (h .0, front (led f t s p) os ps (h .1))
 
   -- There is one such plan, and one such number.
   pub one-plan : (p q : Option (List Operator)) → IsPlan b f t l p → IsPlan b f t l q → p ≡ q

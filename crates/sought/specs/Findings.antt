@@ -1,13 +1,13 @@
 -- What a search finds, said of runs, of texts and of bytes.
 use Prim.Native.Nat.{ℕ, _*_, _≤_}
-use mathlib.Core.List.{List}
+use mathlib.Core.List.{List, _∷_, _++_}
 use lib.ListN.{length}
 use lib.Dec.{T}
 use Rattle.rules.specs.Limits.{mostLimit}
 use Rattle.rules.specs.Tables.{Table}
 use Rattle.rules.specs.Progression.{Step, begin}
 use Rattle.rules.specs.Operators.{Operator}
-use Rattle.rules.specs.Searches.{may}
+use Rattle.rules.specs.Searches.{may, Earlier}
 use Rattle.theorems.specs.Runs.{CompleteRun}
 use Rattle.theorems.specs.Demand.{ListOf}
 
@@ -28,6 +28,10 @@ pub record RunWithin (b f : ℕ) (t : Table) (l : ℕ) (os : List Operator) : Ty
 -- No complete run has a list of at most l operators.
 abbrev pub NoRunWithin : ℕ → ℕ → Table → ℕ → Type 0
 NoRunWithin b f t l = (xs : List Step) → CompleteRun b f t xs → (os : List Operator) → ListOf f t xs os → length os ≤ l → ⊥
+
+-- "a shorter list before its continuations".
+abbrev pub ShorterFirst : Type 0
+ShorterFirst = (os : List Operator) (o : Operator) (more : List Operator) → Earlier os (os ++ (o ∷ more))
 
 -- No operator may be applied at the start.
 abbrev pub NothingApplies : ℕ → ℕ → Table → Type 0

@@ -16,7 +16,7 @@ use Rattle.rules.specs.Searches.{Found, NoneWithin, IsPlan, NumberApplied}
 use Rattle.theorems.specs.Demand.{Given}
 use Rattle.theorems.specs.Numbers.{leastNumbers, Handed, Nothing}
 
--- The rows: 1 2 17 3 5-9, 19 18 of finding a plan, and with "16 stays last" of a search.
+-- Which refusals there are of finding a plan, and of a search; what comes before what is said by what each means.
 abbrev pub findNumbers : List ℕ
 findNumbers = badBound ∷ badForm ∷ badLimits ∷ leastNumbers ++ (overBudget ∷ noPlan ∷ [])
 

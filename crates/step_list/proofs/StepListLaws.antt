@@ -1,13 +1,13 @@
 -- Writing a step list, row by row: what is written and what is left still give the whole.
-use Prim.Native.Nat.{ℕ, zero, suc, _+_, _-_, _*_, _/_, _%_, _≤_, _<_}
-use mathlib.Core.Path.{_≡_, refl, sym, ap, ap₂, subst, _∙_}
+use Prim.Native.Nat.{ℕ, suc, _+_, _-_, _*_, _/_, _%_, _≤_, _<_}
+use mathlib.Core.Path.{_≡_, refl, sym, ap, ap₂, _∙_}
 use mathlib.Core.List.{List, [], _∷_, _++_, map, map-append}
 use native.Mathlib.Numerals.{add-one}
 use native.Mathlib.Omega.{arith}
 use borrow.Author.Tests.{lt-ltb, le-ltb}
 use lib.ListN.{length, take, drop, set, getD, length-append, length-map, drop-of-length-le}
 use lib.Seq.{sets, take-suc, take-at, length-take-le, length-sets, drop-cons}
-use Rattle.rules.specs.Limits.{mostActions, mostMethods, methodWords}
+use Rattle.rules.specs.Limits.{methodWords}
 use Rattle.rules.specs.Tables.{Table, actionCount, methodCount, method}
 use Rattle.rules.specs.Progression.{Step, act, prefix, stays}
 use Rattle.rules.specs.Checks.{stepBytes}
@@ -15,8 +15,8 @@ use Rattle.laws.proofs.StepLaws.{bytes-length, bytes-append, sets-append}
 use Rattle.laws.proofs.JoinedPrefix.{prefix-whole}
 use Rattle.laws.proofs.CountLaws.{prefix-short}
 use Rattle.words.specs.Words.{tableOf, Held}
-use Rattle.rows.specs.Rows.{Row, rowAt, RowsFit, Prepared}
-use Rattle.step_list.specs.RowSteps.{rowOperator, rowBytes, rowsSteps, rowsBytes, IsRow, StepsHeld, MethodRow}
+use Rattle.rows.specs.Rows.{Row, rowAt, Prepared}
+use Rattle.step_list.specs.RowSteps.{rowBytes, rowsSteps, rowsBytes, IsRow, StepsHeld, MethodRow}
 
 -- The two stores of a word.
 pub word-stored : (out : List ℕ) (at word : ℕ) → word < 256 * 256

@@ -1,14 +1,13 @@
 -- The operators of a step, from its row and the template that is composed of it.
 use mathlib.Core.Path.{_≡_, sym, ap, _∙_}
 use mathlib.Core.List.{List}
-use Prim.Native.Nat.{ℕ, suc, _+_, _≤_, _<_}
+use Prim.Native.Nat.{ℕ, _+_, _≤_, _<_}
 use native.Mathlib.Omega.{arith}
 use lib.ListN.{length}
 use Rattle.basics.specs.Texts.{ThreeDigits}
 use Rattle.basics.specs.Lists.{upto}
 use Rattle.rules.specs.Tables.{Table, factCount, taskCount, actionCount, methodCount}
 use Rattle.rules.specs.Operators.{positions}
-use Rattle.rules.specs.Problems.{nameOf}
 use Rattle.laws.specs.Valid.{Valid}
 use Rattle.laws.specs.Steps.{stepAt, stepText}
 use Rattle.laws.proofs.TextLaws.{upto-same}

@@ -12,10 +12,3 @@ pub mod Expansion
 pub mod RefusalNumbers
 pub mod Completion
 pub mod Examples
-pub mod Listing
-pub mod Places
-pub mod LineLaws
-pub mod ValueCounts
-pub mod ProblemOrder
-pub mod LineCounts
-pub mod SectionSizes

@@ -1,9 +1,7 @@
--- Where operators exist and how long sections are, in the document's words.
+-- Where operators exist, in the document's words.
 use Prim.Native.Nat.{ℕ, _+_, _≤_}
 use mathlib.Core.Path.{_≡_}
-use mathlib.Core.List.{List, [], _∷_}
-use lib.ListN.{length}
-use Rattle.rules.specs.Limits.{mostSectionBytes}
+use mathlib.Core.List.{[], _∷_}
 use Rattle.rules.specs.Tables.{Table, method}
 
 -- "at 1 to b if r = 0, otherwise at 1 to b − r + 1 (none if that is below 1)".
@@ -13,14 +11,6 @@ UpTo b i = (1 ≤ i) × (i ≤ b)
 abbrev pub UpToLess : ℕ → ℕ → ℕ → Type 0
 UpToLess b r i = (1 ≤ i) × (i + r ≤ b + 1)
 
--- "With bound b, positions are 1 to b": there is one.
-abbrev pub SomePosition : ℕ → Type 0
-SomePosition b = 1 ≤ b
-
 -- "A method c to c alone".
 abbrev pub Alone : Table → ℕ → Type 0
 Alone t k = method t k .subs ≡ method t k .head ∷ []
-
--- "No section is longer than 2,048 bytes."
-abbrev pub Short : List ℕ → Type 0
-Short x = length x ≤ mostSectionBytes

@@ -2,7 +2,6 @@
 pub mod Runs
 pub mod Solutions
 pub mod Demand
-pub mod Counts
 pub mod Emitted
 pub mod StepLists
 pub mod Shapes

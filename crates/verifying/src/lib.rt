@@ -1,14 +1,14 @@
 // The checking program's work on its input: finding the parts, and writing the verdict as one line.
-ghost use Prim.Native.Nat.{ℕ, _≤_, _<_};
+ghost use Prim.Native.Nat.{ℕ, _≤_};
 ghost use mathlib.Core.Path.{_≡_};
 ghost use mathlib.Core.List.{List};
-ghost use lib.ListN.{length};
+ghost use lib.ListN.{length, take};
 ghost use Rattle.rules.specs.Checks.{verdictOf};
 ghost use Rattle.rules.specs.Programs.{sizeIn, checkInput, checkOutput};
 ghost use Rattle.text.specs.Appends.{Appends};
 ghost use Rattle.report.specs.Reports.{lineRoom};
 ghost use Rattle.report.specs.Inputs.{mostSize, mostCheckInput, countOf, ReadFrom};
-ghost use Rattle.report.specs.Parts.{Moves, Says};
+ghost use Rattle.report.specs.Parts.{nextOf, sizeOf};
 use report::Input;
 use report::Part;
 use rules::Verdict;
@@ -18,38 +18,24 @@ use rules::limits::MOST_TABLE_BYTES;
 // What is read of the input, with the name that specs/Inputs of `report` has for it.
 pub const MOST_INPUT: usize = 4 + MOST_TABLE_BYTES + MOST_PLAN_BYTES + 1;
 
-// All that is written is one line.
-const PARTS: usize = 1;
-
 // What the program does with what it has read into the buffer.
 pub fn answer(buffer: &[u8], input: Input)
     requires { ⌜ (mostCheckInput ≤ length (now buffer)) × (countOf input ≤ length (now buffer)) ⌝ }
 {
     let mut out = [0u8; report::LINE_ROOM];
-    send_parts(buffer, input, &mut out);
+    let part = put_part(buffer, input, &mut out);
+    report::send(&out, part);
 }
 
-// Each part is sent as it is handed over.
-fn send_parts(buffer: &[u8], input: Input, out: &mut [u8])
+// All that is written of the input from which the buffer was filled, as one part.
+fn put_part(buffer: &[u8], input: Input, out: &mut [u8]) -> Part
     requires { ⌜ (mostCheckInput ≤ length (now buffer)) × (countOf input ≤ length (now buffer)) × (lineRoom ≤ length (now out)) ⌝ }
-{
-    let mut next = 0;
-    while next < PARTS {
-        let part = put_part(buffer, input, next, out);
-        next = report::send(out, part);
-    }
-}
-
-// The next part of what is written of the input from which the buffer was filled.
-fn put_part(buffer: &[u8], input: Input, next: usize, out: &mut [u8]) -> Part
-    requires { ⌜ (mostCheckInput ≤ length (now buffer)) × (countOf input ≤ length (now buffer)) × (lineRoom ≤ length (now out)) × (next < 1) ⌝ }
-    ensures { λ r. ⌜ ((s : List ℕ) → ReadFrom s (now (buffer .entry)) input → Says (λ _. checkOutput s) next (now (out .exit)) r) ⌝ }
-    ensures { λ r. ⌜ Moves 1 next (now (out .exit)) r ⌝ }
-    ensures { λ _. ⌜ length (now (out .exit)) ≡ length (now (out .entry)) ⌝ }
+    ensures { λ r. ⌜ ((s : List ℕ) → ReadFrom s (now (buffer .entry)) input → take (sizeOf r) (now (out .exit)) ≡ checkOutput s) ⌝ }
+    ensures { λ r. ⌜ (nextOf r ≡ 1) × (sizeOf r ≤ length (now (out .exit))) × (length (now (out .exit)) ≡ length (now (out .entry))) ⌝ }
 {
     let n = report::count(input);
     let size = put_line(&buffer[..n], out);
-    report::part_of(PARTS, size)
+    report::part_of(1, size)
 }
 
 // The line that says what the check of the input comes to.
@@ -72,5 +58,5 @@ fn decide(input: &[u8]) -> Verdict
     let size = report::two_bytes(report::byte(input, 2), report::byte(input, 3));
     let start = report::smaller(4, input.len());
     let end = start + report::smaller(size, input.len() - start);
-    entries::judging::verdict(bound, form, &input[start..end], &input[end..])
+    judging::verdict(bound, form, &input[start..end], &input[end..])
 }

@@ -22,6 +22,7 @@ use Rattle.laws.specs.Steps.{stepAt}
 use Rattle.laws.proofs.JoinedPrefix.{step-after}
 use Rattle.facts.specs.Sets.{setOf, setWords, setAt, setPut}
 use Rattle.rows.specs.Sizes.{mostRows, stackCells}
+use Rattle.rows.specs.Rows.{rowAt, Prepared}
 use Rattle.rows.specs.Stacks.{stackOf}
 use Rattle.rows.proofs.StackLaws.{stack-height, stack-pop, stack-push}
 use Rattle.trail.specs.Trails.{trailCells, rowIn, positionIn, marked, Marked}
@@ -31,8 +32,10 @@ use Rattle.walks.specs.Levels.{Level, operatorOf, operatorsOf, restOf, a
 use Rattle.walks.proofs.PickLaws.{on-to, none-on-top, none-empty, from-none, from-off}
 use Rattle.walks.proofs.RowLaws.{rest-all, rest-same, rest-none}
 use Rattle.walks.proofs.LevelLaws.{level-back, level-counts, level-hit, level-down}
+use Rattle.walks.proofs.TryLaws.{tried-off, tried-on}
 use Rattle.spots.specs.declared.Spot.{Spot}
-use Rattle.spots.specs.Spots.{savedWords, stateAt, stateIn, topRow, Begins, Returned}
+use Rattle.spots.specs.declared.Tried.{Tried}
+use Rattle.spots.specs.Spots.{savedWords, stateAt, stateIn, topRow, Begins, Tries, Returned}
 use Rattle.spots.proofs.SpotLaws.{top-limit, top-empty, top-strange, top-first}
 
 -- What stands under some tasks on a stack.
@@ -132,7 +135,7 @@ module _ {trail trail′ : List ℕ} (saved saved′ : List ℕ) (facts : ℕ) {
 
 -- ---- which row is to be tried
 
-module _ (b f : ℕ) (t : Table) (valid : Valid t) (links : List ℕ) (linked : Linked b f t links) where
+module _ {b f : ℕ} {t : Table} (valid : Valid t) {links : List ℕ} (linked : Linked b f t links) where
   no-row : (s : State) (rest k : ℕ) → k ≡ mostRows → ToTry b f t s rest k
   no-row s rest k e = record { high = omega arith; there = λ l. absurd (omega arith); allowed = λ l. absurd (omega arith) }
 
@@ -208,7 +211,7 @@ module _ (b f : ℕ) (t : Table) (valid : Valid t) (links : List ℕ) (linked : 
   one-ahead : (n : ℕ) (w : Walked) → ahead n (ahead 1 w) ≡ ahead (n + 1) w
   one-ahead n w = let e : n + (1 + w .count) ≡ n + 1 + w .count = omega arith in λ i. record { plan = w .plan; count = e i }
 
-  module _ (limit budget : ℕ) where
+  module _ {limit budget : ℕ} where
     pub going-begins : (at : Spot) (stack saved trail : List ℕ) → Begins t links limit stack at → length saved ≡ savedWords → length trail ≡ trailCells
         → Going b f t limit budget stack saved trail at 0 0
     going-begins at stack saved trail g l k =
@@ -234,7 +237,7 @@ module _ (b f : ℕ) (t : Table) (valid : Valid t) (links : List ℕ) (linked : 
               ∙ none-ahead (restOf b f t (limit - 0) (stateIn at stack) (at .row));
         }
 
-    module _ (at : Spot) (stack saved trail : List ℕ) (depth applied : ℕ) (g : Going b f t limit budget stack saved trail at depth applied) where
+    module _ {at : Spot} {stack saved trail : List ℕ} {depth applied : ℕ} (g : Going b f t limit budget stack saved trail at depth applied) where
       abbrev s : State
       s = stateIn at stack
 
@@ -359,6 +362,14 @@ module _ (b f : ℕ) (t : Table) (valid : Valid t) (links : List ℕ) (linked : 
 
         pub next-later : (at .row < nextIn links (at .row)) × (nextIn links (at .row) ≤ mostRows)
         next-later = let q = linked .next (at .row) (top .low) (top .exists) in (omega (arith, q .low), q .high)
+
+        -- Whether the row's operator was applied tells whether it may be.
+        module _ {ops cells new : List ℕ} (p : Prepared b f t ops cells) {q : Tried} (tries : Tries (rowAt ops cells (at .row)) at stack new q) where
+          pub row-off : q .applied ≡ false → may b f t s this ≡ false
+          row-off = tried-off p at row-there stack new q some-high task-there tries
+
+          pub row-on : q .applied ≡ true → (may b f t s this ≡ true) × (stateAt (setOf (q .facts)) new (q .height) ≡ led f t s this)
+          row-on = tried-on p at row-there stack new q some-high task-there tries
 
         -- It may not be applied.
         pub going-past : (new : List ℕ) → length new ≡ stackCells → stateIn at new ≡ s → may b f t s this ≡ false → (r : Spot)

@@ -8,7 +8,7 @@ use native.Mathlib.Decide.{decLt, ℕ-discrete}
 use lib.Dec.{T, ltb, leb, eqb, eqb→eq, leb→le}
 use Rattle.rules.specs.Limits.{mostTasks}
 use Rattle.rules.specs.Tables.{Table, actionCount, methodCount, method}
-use Rattle.rules.specs.Progression.{State, Step, act, mth, height, onTop, fits, enabled, allowed, next, allAllowed}
+use Rattle.rules.specs.Progression.{State, Step, act, mth, height, onTop, fits, enabled, allowed, allAllowed}
 use Rattle.rules.specs.Operators.{Operator, expand, taskOf, positions, emitted, applies}
 use Rattle.laws.specs.Valid.{Valid}
 use Rattle.laws.specs.Steps.{stepAt}

@@ -9,7 +9,7 @@ use Rattle.rules.specs.Tables.{Table}
 use Rattle.rules.specs.Progression.{State}
 use Rattle.rules.specs.Operators.{Operator}
 use Rattle.rules.specs.Searches.{may, led, complete}
-use Rattle.rules.specs.Walks.{here, picks, choices, Walked, nothing, hit, behind, after, pickOf, orElse, among, walk}
+use Rattle.rules.specs.Walks.{here, picks, Walked, nothing, hit, behind, after, pickOf, orElse, among, walk}
 use Rattle.laws.specs.Steps.{stepAt}
 use Rattle.links.specs.Links.{rowCount}
 use Rattle.walks.specs.Levels.{from, restOf}

@@ -4,7 +4,7 @@ use Prim.Native.Nat.{ℕ, _+_, _*_, _-_, _≤_, _<_}
 use mathlib.Core.List.{List}
 use native.Mathlib.Omega.{arith}
 use lib.ListN.{length, getD}
-use Rattle.rules.specs.Tables.{Action, Method, actionCount, taskCount, methodCount, noAction, noMethod, action, method}
+use Rattle.rules.specs.Tables.{Method, actionCount, taskCount, methodCount, noAction, noMethod, action, method}
 use Rattle.laws.proofs.ListLaws.{rows-length, rows-at}
 use Rattle.words.specs.Words.{actionOf, methodOf, cellOf, tableOf, Held, perMethod, firstMethod}
 

@@ -1,5 +1,4 @@
 use native.Mathlib.Omega.{arith}
-use mathlib.Core.Path.{refl}
 use Rattle.rules.specs.Refusals.{wholeProblem}
 use Rattle.rules.specs.Programs.{emitInput}
 use Rattle.opening.proofs.OpeningLaws.{goes-on}

@@ -6,7 +6,7 @@ use lib.Seq.{length-take-le}
 use Rattle.rules.specs.Programs.{findOutput}
 use Rattle.text.proofs.AppendLaws.{appends-is}
 use Rattle.report.proofs.CutLaws.{find-read}
-use Rattle.report.proofs.PartLaws.{only-says, only-moves}
+use Rattle.report.proofs.PartLaws.{only-sent}
 use borrow.Author.Needs.{needs}
 use Rattle.finding.proofs.put_part.Statement.{statement}
 use Rattle.finding.proofs.put_part.Tie as tie
@@ -36,8 +36,8 @@ returns c =
     let w = c .before .before .before .put-text .ensures in
     let buffer = s .args .buffer .now in
     let same = ap (λ (k : ℕ). findOutput (take k buffer)) (n .ensures) in (
-      (λ x read. only-says (s .pre .3) (c .part-of .ensures) (appends-is (sym (same ∙ find-read x buffer (s .args .input) read (s .pre .0))) (w .0))),
-      only-moves (s .pre .3) (c .part-of .ensures) (w .0) (omega (arith, w .1, s .pre .2)),
+      (λ x read. only-sent (c .part-of .ensures) (appends-is (sym (same ∙ find-read x buffer (s .args .input) read (s .pre .0))) (w .0))),
+      (c .part-of .ensures .0, omega (arith, c .part-of .ensures .1, w .0 .size, w .1, s .pre .2), w .0 .size),
     )
 
 pub put-part-spec : {M : Type 1} → statement M

@@ -6,7 +6,6 @@ use lib.ListN.{length, drop}
 use Rattle.lines.specs.Places.{feedAt}
 use Rattle.lines.specs.Lines.{Fed}
 use Rattle.lines.proofs.LineLaws.{fed-inside, fed-on, feed-stop, feed-more}
-use borrow.Author.Needs.{needs}
 use Rattle.lines.proofs.feed_from.Statement.{statement}
 use Rattle.lines.proofs.feed_from.Tie as tie
 

@@ -1,5 +1,4 @@
 use borrow.Author.Tests.{eq-eqb, ne-eqb}
-use borrow.Author.Needs.{needs}
 use Rattle.lines.proofs.kind_of.Statement.{statement}
 use Rattle.lines.proofs.kind_of.Tie as tie
 

@@ -1,4 +1,4 @@
-use mathlib.Core.Path.{refl, sym, ap, _∙_}
+use mathlib.Core.Path.{sym, _∙_}
 use native.Mathlib.Omega.{arith}
 use Rattle.lines.proofs.LineLaws.{fed-inside, fed-on, small-fed, line-kind, name-on, letter-byte}
 use borrow.Author.Needs.{needs}

@@ -1,6 +1,5 @@
-use mathlib.Core.Path.{refl, sym, ap, _∙_}
+use mathlib.Core.Path.{refl, sym, _∙_}
 use native.Mathlib.Omega.{arith}
-use Rattle.lines.specs.Places.{bracketed}
 use Rattle.lines.proofs.LineLaws.{fed-inside, fed-on, small-fed, space-other, space-on}
 use borrow.Author.Needs.{needs}
 use Rattle.lines.proofs.position.Statement.{statement}

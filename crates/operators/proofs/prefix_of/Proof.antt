@@ -1,13 +1,13 @@
 use mathlib.Core.Path.{_≡_, refl, sym, ap, _∙_, subst}
-use Prim.Native.Nat.{ℕ, _+_, _-_, _<_}
+use Prim.Native.Nat.{_+_, _-_}
 use native.Mathlib.Omega.{arith}
 use borrow.Author.Needs.{needs}
 use lib.ListN.{length, getD}
-use Rattle.rules.specs.Tables.{Action, actionCount, action, method}
+use Rattle.rules.specs.Tables.{actionCount, action, method}
 use Rattle.rules.specs.Facts.{Join, joinOne}
 use Rattle.words.specs.Words.{tableOf}
 use Rattle.facts.specs.Sets.{joinRead}
-use Rattle.operators.proofs.PrefixLaws.{Joining, Whole, joining-begins, joining-more, joining-stops, joining-ends, plain-prefix, whole-prefix}
+use Rattle.operators.proofs.PrefixLaws.{Joining, joining-begins, joining-more, joining-stops, joining-ends, plain-prefix, whole-prefix}
 use Rattle.operators.proofs.prefix_of.Statement.{statement}
 use Rattle.operators.proofs.prefix_of.Tie as tie
 

@@ -1,12 +1,13 @@
-use mathlib.Core.Path.{_≡_, sym, ap, subst, _∙_}
+use mathlib.Core.Path.{sym, ap, subst, _∙_}
 use native.Mathlib.Omega.{arith}
 use lib.ListN.{length}
 use Rattle.rules.specs.declared.Verdict.{Verdict}
 use Rattle.rules.specs.Refusals.{written}
 use Rattle.words.specs.Words.{tableOf}
 use Rattle.run.specs.Runs.{Few}
-use Rattle.plan.specs.Notes.{NotesHeld, noteBytes}
-use Rattle.plan.proofs.NoteLaws.{notes-long, notes-taken, notes-kept, notes-written}
+use Rattle.checker.specs.Notes.{NotesHeld}
+use Rattle.plan.specs.NoteBytes.{noteBytes}
+use Rattle.plan.proofs.NoteByteLaws.{notes-long, notes-taken, notes-kept, notes-written}
 use borrow.Author.Needs.{needs}
 use Rattle.plan.proofs.hand_out.Statement.{statement}
 use Rattle.plan.proofs.hand_out.Tie as tie

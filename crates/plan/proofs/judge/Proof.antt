@@ -1,12 +1,11 @@
-use mathlib.Core.Path.{_≡_, sym, ap, subst, _∙_}
+use mathlib.Core.Path.{sym, ap, subst, _∙_}
 use lib.ListN.{length}
-use Rattle.rules.specs.declared.Verdict.{Verdict}
 use Rattle.rules.specs.Checks.{verdictOf}
 use Rattle.rules.specs.Refusals.{written}
 use Rattle.rows.proofs.RowLaws.{row-ok}
 use Rattle.run.specs.Runs.{Few}
 use Rattle.step_list.proofs.StepListLaws.{prepared-steps}
-use Rattle.plan.proofs.NoteLaws.{notes-given}
+use Rattle.plan.proofs.NoteByteLaws.{notes-given}
 use borrow.Author.Needs.{needs}
 use Rattle.plan.proofs.judge.Statement.{statement}
 use Rattle.plan.proofs.judge.Tie as tie

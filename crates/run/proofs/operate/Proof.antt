@@ -1,8 +1,7 @@
-use mathlib.Core.Path.{_≡_, refl, sym, ap, _∙_}
-use Prim.Native.Nat.{ℕ, _+_, _<_, _≤_}
+use mathlib.Core.Path.{_≡_, sym, ap, _∙_}
+use Prim.Native.Nat.{ℕ}
 use native.Mathlib.Omega.{arith}
 use borrow.Author.Needs.{needs}
-use Rattle.rules.specs.Tables.{actionCount, methodCount}
 use Rattle.words.specs.Words.{tableOf}
 use Rattle.laws.specs.Steps.{kindStep}
 use Rattle.rows.specs.Rows.{Row}

@@ -7,7 +7,7 @@ use Rattle.words.specs.Words.{tableOf}
 use Rattle.problem.specs.declared.Found.{Found}
 use Rattle.problem.specs.Places.{IsFound}
 use Rattle.section.proofs.ChosenLaws.{chosen-first, chosen-variable, chosen-middle, chosen-operator, chosen-last, chosen-none}
-use Rattle.section.proofs.FitLaws.{fits-chosen, none-chosen}
+use Rattle.kinds.proofs.FitLaws.{fits-chosen, none-chosen}
 use Rattle.section.proofs.put_section.Statement.{statement}
 use Rattle.section.proofs.put_section.Tie as tie
 

@@ -3,10 +3,10 @@ use Prim.Native.Nat.{ℕ}
 use native.Mathlib.Omega.{arith}
 use lib.ListN.{take}
 use lib.Seq.{length-take-le}
-use Rattle.rules.specs.Programs.{checkOutput, sizeIn}
+use Rattle.rules.specs.Programs.{checkOutput}
 use Rattle.text.proofs.AppendLaws.{appends-is}
 use Rattle.report.proofs.CutLaws.{check-read}
-use Rattle.report.proofs.PartLaws.{only-part, part-says, part-moves}
+use Rattle.report.proofs.PartLaws.{only-sent}
 use borrow.Author.Needs.{needs}
 use Rattle.verifying.proofs.put_part.Statement.{statement}
 use Rattle.verifying.proofs.put_part.Tie as tie
@@ -34,15 +34,11 @@ returns c =
     let s = c .before .before .before .before .before .before .before .before .before in
     let n = c .before .before .before .before .before .before .count in
     let w = c .before .before .before .put-line .ensures in
-    let r = c .part-of .ensures in
+    let buffer = s .args .buffer .now in
+    let same = ap (λ (k : ℕ). checkOutput (take k buffer)) (n .ensures) in
     let low = rw (n .ensures) at (w .1 .1) in (
-      (λ x read. part-says (λ _. checkOutput x) _ _ _ _ _ r
-          (only-part (checkOutput x) _ _ (s .pre .3)
-          (appends-is
-          (sym (ap (λ (k : ℕ). checkOutput (take k (s .args .buffer .now))) (n .ensures)
-          ∙ check-read x (s .args .buffer .now) (s .args .input) read (s .pre .0) low))
-          (w .0)))),
-      (part-moves _ _ _ _ _ _ r (s .pre .3) (omega arith) (omega (arith, w .0 .size, w .1 .0, s .pre .2)), w .0 .size),
+      (λ x read. only-sent (c .part-of .ensures) (appends-is (sym (same ∙ check-read x buffer (s .args .input) read (s .pre .0) low)) (w .0))),
+      (c .part-of .ensures .0, omega (arith, c .part-of .ensures .1, w .0 .size, w .1 .0, s .pre .2), w .0 .size),
     )
 
 pub put-part-spec : {M : Type 1} → statement M

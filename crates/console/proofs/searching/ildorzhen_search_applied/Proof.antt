@@ -11,15 +11,15 @@ use Rattle.console.proofs.searching.ildorzhen_search_applied.Tie as tie
 measure-requires : tie.Need-measure-requires
 measure-requires c κs = search needs
 
-finding-applied-requires : tie.Need-finding-applied-requires
-finding-applied-requires c κs = search needs
+applied-requires : tie.Need-applied-requires
+applied-requires c κs = search needs
 
 returns : tie.Need-returns
 returns c =
     let a = c .before .before .before .before .args in
-    c .finding-applied .ensures ∙ ap (valueOf appliedOf) (c .before .measure .ensures)
+    c .applied .ensures ∙ ap (valueOf appliedOf) (c .before .measure .ensures)
     ∙ mapped-value figuresOf appliedOf (searchPlan (a .bound) (a .form) (a .limit) (a .budget) (a .table .now) (length (a .text .now)))
 
 pub ildorzhen-search-applied-spec : {M : Type 1} → statement M
 ildorzhen-search-applied-spec =
-    tie.close (tie.spec measure-requires finding-applied-requires returns)
+    tie.close (tie.spec measure-requires applied-requires returns)

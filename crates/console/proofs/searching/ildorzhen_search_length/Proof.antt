@@ -11,14 +11,14 @@ use Rattle.console.proofs.searching.ildorzhen_search_length.Tie as tie
 measure-requires : tie.Need-measure-requires
 measure-requires c κs = search needs
 
-finding-bytes-requires : tie.Need-finding-bytes-requires
-finding-bytes-requires c κs = search needs
+bytes-requires : tie.Need-bytes-requires
+bytes-requires c κs = search needs
 
 returns : tie.Need-returns
 returns c =
     let a = c .before .before .before .before .args in
-    c .finding-bytes .ensures ∙ ap (valueOf bytesIn) (c .before .measure .ensures)
+    c .bytes .ensures ∙ ap (valueOf bytesIn) (c .before .measure .ensures)
     ∙ mapped-value figuresOf bytesIn (searchPlan (a .bound) (a .form) (a .limit) (a .budget) (a .table .now) (length (a .text .now)))
 
 pub ildorzhen-search-length-spec : {M : Type 1} → statement M
-ildorzhen-search-length-spec = tie.close (tie.spec measure-requires finding-bytes-requires returns)
+ildorzhen-search-length-spec = tie.close (tie.spec measure-requires bytes-requires returns)

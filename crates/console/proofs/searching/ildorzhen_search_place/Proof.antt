@@ -11,14 +11,14 @@ use Rattle.console.proofs.searching.ildorzhen_search_place.Tie as tie
 measure-requires : tie.Need-measure-requires
 measure-requires c κs = search needs
 
-finding-place-requires : tie.Need-finding-place-requires
-finding-place-requires c κs = search needs
+place-requires : tie.Need-place-requires
+place-requires c κs = search needs
 
 returns : tie.Need-returns
 returns c =
     let a = c .before .before .before .before .args in
-    c .finding-place .ensures ∙ ap placeOf (c .before .measure .ensures)
+    c .place .ensures ∙ ap placeOf (c .before .measure .ensures)
     ∙ mapped-place figuresOf (searchPlan (a .bound) (a .form) (a .limit) (a .budget) (a .table .now) (length (a .text .now)))
 
 pub ildorzhen-search-place-spec : {M : Type 1} → statement M
-ildorzhen-search-place-spec = tie.close (tie.spec measure-requires finding-place-requires returns)
+ildorzhen-search-place-spec = tie.close (tie.spec measure-requires place-requires returns)

@@ -1,2 +1,0 @@
-mod KeptLaws
-mod SectionCallLaws
