@@ -15,7 +15,7 @@ pub extern "C" fn ildorzhen_search_number(
 ) -> u64
     ensures { λ r. ⌜ r ≡ numberOf (searchPlan bound form limit budget (now (table .entry)) (length (now (text .entry)))) ⌝ }
 {
-    crate::findings::number(seeking::measure(bound, form, limit, budget, table, text.len()))
+    replies::findings::number(seeking::measure(bound, form, limit, budget, table, text.len()))
 }
 
 #[no_mangle]
@@ -29,7 +29,7 @@ pub extern "C" fn ildorzhen_search_place(
 ) -> u64
     ensures { λ r. ⌜ r ≡ placeOf (searchPlan bound form limit budget (now (table .entry)) (length (now (text .entry)))) ⌝ }
 {
-    crate::findings::place(seeking::measure(bound, form, limit, budget, table, text.len()))
+    replies::findings::place(seeking::measure(bound, form, limit, budget, table, text.len()))
 }
 
 #[no_mangle]
@@ -43,7 +43,7 @@ pub extern "C" fn ildorzhen_search_applied(
 ) -> u64
     ensures { λ r. ⌜ r ≡ valueOf appliedIn (searchPlan bound form limit budget (now (table .entry)) (length (now (text .entry)))) ⌝ }
 {
-    crate::findings::applied(seeking::measure(bound, form, limit, budget, table, text.len()))
+    replies::findings::applied(seeking::measure(bound, form, limit, budget, table, text.len()))
 }
 
 #[no_mangle]
@@ -57,7 +57,7 @@ pub extern "C" fn ildorzhen_search_length(
 ) -> u64
     ensures { λ r. ⌜ r ≡ valueOf planBytes (searchPlan bound form limit budget (now (table .entry)) (length (now (text .entry)))) ⌝ }
 {
-    crate::findings::bytes(seeking::measure(bound, form, limit, budget, table, text.len()))
+    replies::findings::bytes(seeking::measure(bound, form, limit, budget, table, text.len()))
 }
 
 #[no_mangle]
@@ -72,5 +72,5 @@ pub extern "C" fn ildorzhen_search_write(
     ensures { λ r. ⌜ r ≡ valueOf planBytes (searchPlan bound form limit budget (now (table .entry)) (length (now (text .entry)))) ⌝ }
     ensures { λ _. ⌜ now (text .exit) ≡ written (now (text .entry)) 0 (textFound (searchPlan bound form limit budget (now (table .entry)) (length (now (text .entry))))) ⌝ }
 {
-    crate::findings::bytes(seeking::write(bound, form, limit, budget, table, text))
+    replies::findings::bytes(seeking::write(bound, form, limit, budget, table, text))
 }

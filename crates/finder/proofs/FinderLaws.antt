@@ -24,8 +24,8 @@ use Rattle.theorems.proofs.PlanTexts.{AllSmall}
 use Rattle.sought.proofs.Search.{walk-plan}
 use Rattle.sought.proofs.Plans.{applicable-small}
 use Rattle.sought.proofs.SearchAnswers.{plan-fits, plan-short}
-use Rattle.finder.specs.Findings.{foundOf, figures, roomForFigures}
-use Rattle.finder.specs.declared.Finding.the-variants.{Plan, Refused}
+use Rattle.replies.specs.Findings.{foundOf, figures, roomForFigures}
+use Rattle.replies.specs.declared.Finding.the-variants.{Plan, Refused}
 
 module _ (budget : ℕ) (w : Walked) where
   pub walk-over : budget < w .count → judged budget w ≡ refusal overBudget 0

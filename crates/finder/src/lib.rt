@@ -9,16 +9,11 @@ ghost use Rattle.basics.specs.Answers.{after};
 ghost use Rattle.words.specs.Words.{tableOf, Held};
 ghost use Rattle.trail.specs.Trails.{trailCells, marked};
 ghost use Rattle.plan_text.specs.PlanLines.{EachSmall};
-ghost use Rattle.finder.specs.Findings.{foundOf, figures};
+ghost use Rattle.replies.specs.Findings.{foundOf, figures};
+use replies::Finding;
 use rules::reasons::NO_PLAN;
 use rules::reasons::OVER_BUDGET;
 use search::Walk;
-
-// How many bytes the text of the plan found takes, and how many operators were applied; or a refusal's number and place.
-pub enum Finding {
-    Plan(u64, u64),
-    Refused(u64, u64),
-}
 
 // The text of the plan that a trail's first n operators are, from the start of the bytes on where there is room for it.
 fn hand_out(words: &[u64], trail: &[u16], n: usize, applied: u64, text: &mut [u8]) -> Finding

@@ -12,7 +12,7 @@ use Rattle.laws.proofs.AnswerLaws.{refused}
 use Rattle.laws.proofs.RefusalLaws.{stores-written}
 use Rattle.sought.specs.Findings.{mostFoundBytes}
 use Rattle.sought.proofs.SearchAnswers.{search-is-find, search-answer}
-use Rattle.finder.specs.Findings.{Figures, figures}
+use Rattle.replies.specs.Findings.{Figures, figures}
 use Rattle.text.specs.Appends.{Appends}
 use Rattle.text.proofs.AppendLaws.{appends-is, appends-sets}
 

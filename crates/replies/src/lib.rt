@@ -1,9 +1,17 @@
-// The numbers of a reply and of a verdict, one at a time.
+// The numbers of a reply, of a verdict and of a finding, one at a time.
 ghost use mathlib.Core.Path.{_≡_};
 ghost use Rattle.basics.specs.Answers.{numberOf, placeOf, valueOf, replyOf, itself};
 ghost use Rattle.rules.specs.Checks.{verdictOf, costOf, operatorsIn, stepsIn};
 use basics::Reply;
 use rules::Verdict;
+
+pub mod findings;
+
+// How many bytes the text of the plan found takes, and how many operators were applied; or a refusal's number and place.
+pub enum Finding {
+    Plan(u64, u64),
+    Refused(u64, u64),
+}
 
 pub fn number(reply: Reply) -> u64
     ensures { λ r. ⌜ r ≡ numberOf (replyOf reply) ⌝ }

@@ -3,9 +3,9 @@ ghost use mathlib.Core.Path.{_≡_};
 ghost use lib.ListN.{length};
 ghost use Rattle.basics.specs.Answers.{after};
 ghost use Rattle.rules.specs.Refusals.{searchPlan, textFound, written};
-ghost use Rattle.finder.specs.Findings.{foundOf, figures, roomForFigures};
-use finder::Finding;
+ghost use Rattle.replies.specs.Findings.{foundOf, figures, roomForFigures};
 use opening::Opening;
+use replies::Finding;
 use rules::reasons::NO_ROOM;
 
 // What a finding says of a text of so many bytes.

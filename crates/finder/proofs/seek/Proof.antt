@@ -1,5 +1,5 @@
 use Rattle.trail.specs.Trails.{marked}
-use Rattle.finder.specs.Findings.{figures}
+use Rattle.replies.specs.Findings.{figures}
 use Rattle.rules.specs.Refusals.{Sought, roomForPlan, textFound, written}
 use Rattle.basics.specs.Answers.{Answer, after}
 use lib.ListN.{length}

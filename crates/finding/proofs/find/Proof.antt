@@ -5,7 +5,7 @@ use Rattle.rules.specs.Refusals.{Sought, findPlan, textFound, written}
 use Rattle.rules.specs.Programs.{limitIn, findInput}
 use Rattle.basics.specs.Answers.{Answer}
 use Rattle.sought.proofs.SearchAnswers.{search-is-find}
-use Rattle.finder.specs.Findings.{figures}
+use Rattle.replies.specs.Findings.{figures}
 use Rattle.report.proofs.InputLaws.{last-part}
 use borrow.Author.Needs.{needs}
 use Rattle.finding.proofs.find.Statement.{statement}

@@ -1,6 +1,6 @@
 use mathlib.Core.Path.{sym, ap, _∙_}
 use native.Mathlib.Omega.{arith}
-use Rattle.finder.specs.Findings.{foundOf}
+use Rattle.replies.specs.Findings.{foundOf}
 use Rattle.finding.proofs.FoundLaws.{plan-put, refusal-put}
 use borrow.Author.Needs.{needs}
 use Rattle.finding.proofs.put_text.Statement.{statement}

@@ -1,5 +1,5 @@
-use Rattle.finder.specs.Findings.{Figures, foundOf, roomForFigures}
-use Rattle.finder.specs.declared.Finding.{Finding}
+use Rattle.replies.specs.Findings.{Figures, foundOf, roomForFigures}
+use Rattle.replies.specs.declared.Finding.{Finding}
 use Rattle.rules.specs.Reasons.{noRoom}
 use Rattle.basics.specs.Answers.{answer, refusal, after}
 use borrow.Author.Tests.{le-leb, lt-leb}

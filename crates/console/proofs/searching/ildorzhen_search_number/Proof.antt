@@ -1,4 +1,4 @@
-use Rattle.finder.specs.Findings.{figuresOf}
+use Rattle.replies.specs.Findings.{figuresOf}
 use Rattle.laws.proofs.AnswerLaws.{mapped-number}
 use Rattle.rules.specs.Refusals.{searchPlan}
 use Rattle.basics.specs.Answers.{numberOf}

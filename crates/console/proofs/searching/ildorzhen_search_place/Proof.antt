@@ -1,4 +1,4 @@
-use Rattle.finder.specs.Findings.{figuresOf}
+use Rattle.replies.specs.Findings.{figuresOf}
 use Rattle.laws.proofs.AnswerLaws.{mapped-place}
 use Rattle.rules.specs.Refusals.{searchPlan}
 use Rattle.basics.specs.Answers.{placeOf}

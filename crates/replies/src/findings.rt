@@ -1,8 +1,8 @@
 // The numbers of a finding, one at a time.
 ghost use mathlib.Core.Path.{_≡_};
 ghost use Rattle.basics.specs.Answers.{numberOf, placeOf, valueOf};
-ghost use Rattle.finder.specs.Findings.{foundOf, bytesIn, appliedOf};
-use finder::Finding;
+ghost use Rattle.replies.specs.Findings.{foundOf, bytesIn, appliedOf};
+use crate::Finding;
 
 pub fn number(finding: Finding) -> u64
     ensures { λ r. ⌜ r ≡ numberOf (foundOf finding) ⌝ }
@@ -34,8 +34,8 @@ pub fn bytes(finding: Finding) -> u64
 pub fn applied(finding: Finding) -> u64
     ensures { λ r. ⌜ r ≡ valueOf appliedOf (foundOf finding) ⌝ }
 {
-    match finding {
-        Finding::Plan(_, applied) => applied,
-        Finding::Refused(_, _) => 0,
-    }
+    let Finding::Plan(_, applied) = finding else {
+        return 0;
+    };
+    applied
 }

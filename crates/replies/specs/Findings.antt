@@ -2,8 +2,8 @@
 use Prim.Native.Nat.{ℕ}
 use Rattle.basics.specs.Answers.{Answer, answer, refusal, after, mapped}
 use Rattle.rules.specs.Refusals.{Sought, planBytes, roomOf}
-use Rattle.finder.specs.declared.Finding.{Finding}
-use Rattle.finder.specs.declared.Finding.the-variants.{Plan, Refused}
+use Rattle.replies.specs.declared.Finding.{Finding}
+use Rattle.replies.specs.declared.Finding.the-variants.{Plan, Refused}
 
 pub record Figures : Type 0 where
   pub bytes : ℕ
