@@ -110,15 +110,16 @@ static void find(const char *name, uint64_t bound, uint64_t form, uint64_t limit
     judge(name, bound, form, (const char *)plan, length);
 }
 
-/* The least bound, for the planner and the check; 0 where the table is refused, or no bound lets its stack be emptied. */
-static uint64_t read_table(const char *name, const uint8_t *table, size_t length)
+/* The least bound of the form, for the planner and the check; 0 where the table is refused, or no bound lets its stack be
+ * emptied. With less no plan of that form is accepted. */
+static uint64_t read_table(const char *name, uint64_t form, const uint8_t *table, size_t length)
 {
-    uint64_t refusal = ildorzhen_least_number(table, length), bound = ildorzhen_least_bound(table, length);
+    uint64_t refusal = ildorzhen_least_number(form, table, length), bound = ildorzhen_least_bound(form, table, length);
     if (refusal != 0)
-        tell_refusal(name, refusal, ildorzhen_least_place(table, length));
+        tell_refusal(name, refusal, ildorzhen_least_place(form, table, length));
     else
-        printf("%s: accepted, least bound %llu, %llu sections for the planner\n", name, (wide)bound,
-               (wide)ildorzhen_sections_count(bound, ILDORZHEN_PLAIN, table, length));
+        printf("%s: accepted, least bound %llu in form %llu, %llu sections for the planner\n", name, (wide)bound, (wide)form,
+               (wide)ildorzhen_sections_count(bound, form, table, length));
     return bound;
 }
 
@@ -127,24 +128,25 @@ int main(void)
     static const char whole[] = "(m0 1)\n(a0 3)\n(m1 2)\n(a1 3)\n(a2 2)\n(a3 1)\n; cost = 240 (general cost)\n";
     static const char shorter[] = "(m0 1)\n(m1 2)\n(a3 1)\n", half[] = "(m0 1)\n(a0 3)\n";
     static const char unloaded[] = "(m0 1)\n(a0 3)\n(m2 2)\n(a2 2)\n(a3 1)\n";
-    uint64_t bound = read_table("table", TABLE, sizeof TABLE);
-    if (bound == 0)
+    uint64_t bound = read_table("table", ILDORZHEN_PLAIN, TABLE, sizeof TABLE);
+    uint64_t prefix_bound = read_table("table", ILDORZHEN_PREFIX, TABLE, sizeof TABLE);
+    if (bound == 0 || prefix_bound == 0)
         return 1;
     printf("  task: %s\n", TASKS[number(4)]);
     for (unsigned k = 0; k < number(0); k++)
         printf("  fact: %s%s%s\n", FACTS[k], (number(5) >> k) & 1 ? ", given" : "", (number(6) >> k) & 1 ? ", wanted" : "");
     judge("whole plan", bound, ILDORZHEN_PLAIN, whole, sizeof whole - 1); /* a plan is without C's closing zero */
-    judge("the same in form 1", bound, ILDORZHEN_PREFIX, shorter, sizeof shorter - 1);
+    judge("the same in form 1", prefix_bound, ILDORZHEN_PREFIX, shorter, sizeof shorter - 1);
     judge("half plan of March", bound, ILDORZHEN_PLAIN, half, sizeof half - 1);
     judge("plan that loads nothing", bound, ILDORZHEN_PLAIN, unloaded, sizeof unloaded - 1);
     judge("no plan", bound, ILDORZHEN_PLAIN, NULL, 0);
-    find("plan of our own", bound, ILDORZHEN_PREFIX, ILDORZHEN_MOST_LIMIT, ILDORZHEN_MOST_BUDGET);
-    find("plan of our own, of 2 lines", bound, ILDORZHEN_PREFIX, 2, ILDORZHEN_MOST_BUDGET);
+    find("plan of our own", prefix_bound, ILDORZHEN_PREFIX, ILDORZHEN_MOST_LIMIT, ILDORZHEN_MOST_BUDGET);
+    find("plan of our own, of 2 lines", prefix_bound, ILDORZHEN_PREFIX, 2, ILDORZHEN_MOST_BUDGET);
     /* Here the starting task becomes an action. Not every changed byte is refused: with another cost it is another good table. */
     uint8_t changed[sizeof TABLE];
     for (size_t k = 0; k < sizeof TABLE; k++)
         changed[k] = k == 4 ? 3 : TABLE[k];
-    read_table("table with byte 4 changed", changed, sizeof changed);
-    read_table("table without its last byte", TABLE, sizeof TABLE - 1);
+    read_table("table with byte 4 changed", ILDORZHEN_PLAIN, changed, sizeof changed);
+    read_table("table without its last byte", ILDORZHEN_PLAIN, TABLE, sizeof TABLE - 1);
     return 0;
 }

@@ -25,10 +25,10 @@
 #include <stdint.h>
 
 /* The version: the minor number rises where something is added, the major where a call that was there is declared or answers
- * otherwise. ILDORZHEN_VERSION has both, to compare with: from 1002 on it is 1.2 or later. The archive does not carry it: header
+ * otherwise. ILDORZHEN_VERSION has both, to compare with: from 2001 on it is 2.1 or later. The archive does not carry it: header
  * and archive belong together. */
-#define ILDORZHEN_VERSION_MAJOR 1
-#define ILDORZHEN_VERSION_MINOR 1
+#define ILDORZHEN_VERSION_MAJOR 2
+#define ILDORZHEN_VERSION_MINOR 0
 #define ILDORZHEN_VERSION (1000 * ILDORZHEN_VERSION_MAJOR + ILDORZHEN_VERSION_MINOR)
 
 /* Forms of a problem, and of the plans for it. */
@@ -98,13 +98,17 @@ uint64_t ildorzhen_section_length(uint64_t bound, uint64_t form, const uint8_t *
 uint64_t ildorzhen_section_write(uint64_t bound, uint64_t form, const uint8_t *table, size_t table_length,
                                  uint64_t index, uint8_t *text, size_t text_length, uint64_t at);
 
-/* Give the least bound of a table.
- * _bound hands back the smallest bound, 1 to 64, with which the stack alone, facts ignored, can be emptied in form 0; or 0, with no
- * refusal, if there is none. It is a hint: a plan by other methods may need more, and one of form 1 may do with less.
- * Refusals: 3, 5 to 9. Writes: nothing. */
-uint64_t ildorzhen_least_number(const uint8_t *table, size_t table_length);
-uint64_t ildorzhen_least_place(const uint8_t *table, size_t table_length);
-uint64_t ildorzhen_least_bound(const uint8_t *table, size_t table_length);
+/* Give the least bound of a table, for a form.
+ * _bound hands back the smallest bound, 1 to 64, with which the stack alone, facts ignored, can be emptied; or 0, with no refusal,
+ * if there is none. In form 0 the height counts after every action and every method; in form 1 after a method together with the
+ * actions that it takes with it, and after any other action. Form 1's is never above form 0's, and form 0's, if there is one, at
+ * most 7 above form 1's.
+ * It is a hint: with a smaller bound, and with none if it is 0, no plan of that form is accepted or found; a plan may still need a
+ * greater one, or there may be none, since facts are ignored.
+ * Refusals: 2, 3, 5 to 9. Writes: nothing. */
+uint64_t ildorzhen_least_number(uint64_t form, const uint8_t *table, size_t table_length);
+uint64_t ildorzhen_least_place(uint64_t form, const uint8_t *table, size_t table_length);
+uint64_t ildorzhen_least_bound(uint64_t form, const uint8_t *table, size_t table_length);
 
 /* Check a plan for a table, with a bound and a form. _number hands back 0 for a whole plan, and only for one: every line is in
  * shape, every operator may run where it stands, the stack is empty at the end and the goal facts hold.

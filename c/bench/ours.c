@@ -24,7 +24,7 @@ static uint64_t expand(const struct input *in, uint8_t *steps, size_t room)
 
 static uint64_t least(const struct input *in)
 {
-    return ildorzhen_least_bound(in->table, in->table_length);
+    return ildorzhen_least_bound(in->form, in->table, in->table_length);
 }
 
 /* Asked with no room, a plan found has the length of its text as the place, and no plan the number applied. */

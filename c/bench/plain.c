@@ -24,7 +24,7 @@ static uint64_t expand(const struct input *in, uint8_t *steps, size_t room)
 
 static uint64_t least(const struct input *in)
 {
-    return plain_least(in->table, in->table_length).value;
+    return plain_least(in->form, in->table, in->table_length).value;
 }
 
 static uint64_t search(const struct input *in)

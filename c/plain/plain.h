@@ -31,8 +31,8 @@ struct plain_verdict plain_check(uint64_t bound, uint64_t form, const uint8_t *t
 struct plain_answer plain_expand(uint64_t bound, uint64_t form, const uint8_t *table, size_t table_length,
                                  const uint8_t *plan, size_t plan_length, uint8_t *steps, size_t room);
 
-/* The value is the least bound, 0 where no bound up to 64 empties the stack. */
-struct plain_answer plain_least(const uint8_t *table, size_t table_length);
+/* The value is the least bound of the form, 0 where no bound up to 64 empties the stack. */
+struct plain_answer plain_least(uint64_t form, const uint8_t *table, size_t table_length);
 
 /* Writes the text of the first plan of at most `limit` operators, found by applying at most `budget`; length is the text's. */
 struct plain_found plain_search(uint64_t bound, uint64_t form, uint64_t limit, uint64_t budget,

@@ -40,11 +40,13 @@ pub fn sections(input: &[u8]) {
     telling::answer(b"sections ", number, place, count);
 }
 
-// A table: its least bound.
-pub fn least(table: &[u8]) {
-    let number = ildorzhen_least_number(table);
-    let place = ildorzhen_least_place(table);
-    let bound = ildorzhen_least_bound(table);
+// Form, table: its least bound.
+pub fn least(input: &[u8]) {
+    let form = report::byte(input, 0) as u64;
+    let table = &input[report::smaller(1, input.len())..];
+    let number = ildorzhen_least_number(form, table);
+    let place = ildorzhen_least_place(form, table);
+    let bound = ildorzhen_least_bound(form, table);
     telling::answer(b"least ", number, place, bound);
 }
 

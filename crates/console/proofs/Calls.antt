@@ -1,10 +1,16 @@
 -- What the contracts of an entry's calls, as the source states them, allow on the same arguments: all results that they allow.
-use mathlib.Core.Path.{sym, transport}
+use Prim.Native.Nat.{ℕ}
+use mathlib.Core.Path.{_≡_, sym, ap, ap₂, subst, transport, _∙_}
+use mathlib.Core.List.{List}
 use lib.ListN.{length}
+use Rattle.basics.specs.Answers.{valueOf, itself}
+use Rattle.rules.specs.Refusals.{findLeast}
+use Rattle.theorems.specs.Hints.{Compared, Reaches}
+use Rattle.theorems.proofs.HintLaws.{hints-compared}
 use Rattle.sought.specs.Outcomes.{SearchCalls}
 use Rattle.sought.proofs.SearchAnswers.{search-says}
 use Rattle.results.specs.Calls.{SectionsCalls, SectionCalls, LeastCalls, CheckCalls, ExpandCalls, SearchWrites}
-use Rattle.results.proofs.CallLaws.{sections-say, section-says, least-says, check-says, expand-says, search-wrote}
+use Rattle.results.proofs.CallLaws.{sections-say, section-says, least-says, check-says, expand-says, check-reaches, search-reaches, search-wrote}
 use Rattle.console.proofs.sections.ildorzhen_sections_number.Reads as sections-number
 use Rattle.console.proofs.sections.ildorzhen_sections_place.Reads as sections-place
 use Rattle.console.proofs.sections.ildorzhen_sections_count.Reads as sections-count
@@ -52,9 +58,22 @@ pub least-calls : (κs : _) (a : _) (n p m : _) (s1 s2 s3 : _)
     → least-number.Post κs a n s1
     → least-place.Post κs a p s2
     → least-bound.Post κs a m s3
-    → LeastCalls (a .0 .now) n p m
+    → LeastCalls (a .0) (a .1 .0 .now) n p m
 least-calls κs a n p m s1 s2 s3 h1 h2 h3 =
-    transport (λ i. LeastCalls (a .0 .now) (sym h1 i) (sym h2 i) (sym h3 i)) (least-says (a .0 .now))
+    transport (λ i. LeastCalls (a .0) (a .1 .0 .now) (sym h1 i) (sym h2 i) (sym h3 i)) (least-says (a .0) (a .1 .0 .now))
+
+-- The least bounds of both forms on one table.
+pub least-compared : (κs κs′ : _) (a a′ : _) (m m′ : _) (s s′ : _)
+    → least-bound.Post κs a m s
+    → least-bound.Post κs′ a′ m′ s′
+    → a .0 ≡ 0
+    → a′ .0 ≡ 1
+    → a .1 .0 .now ≡ a′ .1 .0 .now
+    → Compared m m′
+least-compared κs κs′ a a′ m m′ s s′ h h′ plain prefixed table =
+    let e = h ∙ ap (λ (f : ℕ). valueOf itself (findLeast f (a .1 .0 .now))) plain in
+    let e′ = h′ ∙ ap₂ (λ (f : ℕ) (x : List ℕ). valueOf itself (findLeast f x)) prefixed (sym table) in
+    transport (λ i. Compared (sym e i) (sym e′ i)) (hints-compared (a .1 .0 .now))
 
 pub check-calls : (κs : _) (a : _) (n p c o k : _) (s1 s2 s3 s4 s5 : _)
     → check-number.Post κs a n s1
@@ -88,6 +107,29 @@ search-calls κs a n p c m s1 s2 s3 s4 h1 h2 h3 h4 =
     transport
     (λ i. SearchCalls (a .0) (a .1 .0) (a .1 .1 .0) (a .1 .1 .1 .0) (a .1 .1 .1 .1 .0 .now) (length (a .1 .1 .1 .1 .1 .0 .now)) (sym h1 i) (sym h2 i) (sym h3 i) (sym h4 i))
     (search-says (a .0) (a .1 .0) (a .1 .1 .0) (a .1 .1 .1 .0) (a .1 .1 .1 .1 .0 .now) (length (a .1 .1 .1 .1 .1 .0 .now)))
+
+-- Where a plan is accepted, or found, the least bound of its form is there, and no greater than its bound.
+pub check-reached : (κs κs′ : _) (a c : _) (m n : _) (s u : _)
+    → least-bound.Post κs a m s
+    → check-number.Post κs′ c n u
+    → a .0 ≡ c .1 .0
+    → a .1 .0 .now ≡ c .1 .1 .0 .now
+    → n ≡ 0
+    → Reaches (c .0) m
+check-reached κs κs′ a c m n s u h k form table zero =
+    let e = h ∙ ap₂ (λ (f : ℕ) (x : List ℕ). valueOf itself (findLeast f x)) form table in
+    subst (Reaches (c .0)) (sym e) (check-reaches _ _ _ _ (sym k ∙ zero))
+
+pub search-reached : (κs κs′ : _) (a c : _) (m n : _) (s u : _)
+    → least-bound.Post κs a m s
+    → search-number.Post κs′ c n u
+    → a .0 ≡ c .1 .0
+    → a .1 .0 .now ≡ c .1 .1 .1 .1 .0 .now
+    → n ≡ 0
+    → Reaches (c .0) m
+search-reached κs κs′ a c m n s u h k form table zero =
+    let e = h ∙ ap₂ (λ (f : ℕ) (x : List ℕ). valueOf itself (findLeast f x)) form table in
+    subst (Reaches (c .0)) (sym e) (search-reaches _ _ _ _ _ _ (sym k ∙ zero))
 
 pub search-writes : (κs : _) (a : _) (m : _) (u : _) → search-write.Post κs a m u
     → SearchWrites (a .0) (a .1 .0) (a .1 .1 .0) (a .1 .1 .1 .0) (a .1 .1 .1 .1 .0 .now) (a .1 .1 .1 .1 .1 .0 .now) (u .1 .1 .1 .1 .1 .0 .now) m

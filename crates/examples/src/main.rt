@@ -7,7 +7,7 @@ use libc::STDIN_FILENO;
 mod programs;
 
 // Room for all records.
-const MOST_RECORDS: usize = 256 * 256;
+const MOST_RECORDS: usize = 2 * 256 * 256;
 
 fn main() {
     let mut all = [0u8; MOST_RECORDS];

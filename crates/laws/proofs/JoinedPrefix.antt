@@ -104,7 +104,7 @@ prefix-below (suc f) t k = below-leading (actionCount t) (method t k .subs)
 -- A method operator: when it can run, and what it leaves.
 module _ (f : ℕ) (t : Table) (k : ℕ) where
   -- The stack as the method leaves it: its prefix on top, then its other subtasks, then what was below.
-  pushed : (ys : List ℕ) → method t k .subs ++ ys ≡ prefix f t k ++ (stays f t k ++ ys)
+  pub pushed : (ys : List ℕ) → method t k .subs ++ ys ≡ prefix f t k ++ (stays f t k ++ ys)
   pushed ys = ap (λ (l : List ℕ). l ++ ys) (sym (prefix-whole f t k)) ∙ append-assoc (prefix f t k) (stays f t k) ys
 
   pub prefix-needs : (s : State) → T (allAllowed t s (mth k ∷ map act (prefix f t k)))

@@ -14,6 +14,8 @@ pub mod CostLaws
 pub mod StepNumbers
 pub mod StepSizes
 pub mod SectionLaws
+pub mod LeadingLaws
+pub mod RestLaws
 pub mod LeastLaws
 pub mod RoundLaws
 pub mod RefusalLaws

@@ -14,7 +14,7 @@ use Rattle.basics.specs.Readings.{Reading, got, bad}
 use Rattle.rules.specs.Limits.{mostBound, mostTableBytes, mostPlanBytes, mostLimit, mostBudget}
 use Rattle.rules.specs.Reasons.{badBound, badForm, tableTooLong, planTooLong, noRoom, badLimits}
 use Rattle.rules.specs.Tables.{Table, decode}
-use Rattle.rules.specs.Refusals.{readOf, tableRead, opened, planNumber, searchNumber, roomOf, roomFor, written}
+use Rattle.rules.specs.Refusals.{readOf, tableRead, formRead, opened, planNumber, searchNumber, roomOf, roomFor, written}
 use Rattle.laws.specs.Valid.{Valid}
 use Rattle.laws.proofs.AnswerLaws.{refused}
 use Rattle.laws.proofs.TableLaws.{valid}
@@ -42,6 +42,20 @@ read-valid s t e = go (decode s) refl e
     go (got t′ n) d e = let q : t′ ≡ t = cc in valid s t n (d ∙ ap (λ (x : Table). got x n) q)
     go (bad why at) d e = refused why at e
 
+module _ (early late f : ℕ) (s : List ℕ) where
+  pub form-bad : 1 < f → formRead early late f s ≡ refusal badForm 0
+  unfolding formRead
+  form-bad k = rw (lt-leb f 1 k)
+
+  module _ (k : f ≤ 1) where
+    pub early-refused : (early ≡ 0 → ⊥) → formRead early late f s ≡ refusal early 0
+    unfolding formRead
+    early-refused n = rw (le-leb f 1 k, ne-eqb early 0 n)
+
+    pub form-is : early ≡ 0 → formRead early late f s ≡ tableRead late s
+    unfolding formRead
+    form-is z = rw (le-leb f 1 k, eq-eqb early 0 z)
+
 module _ (early late b f : ℕ) (s : List ℕ) where
   pub bound-low : b < 1 → opened early late b f s ≡ refusal badBound 0
   unfolding opened
@@ -52,19 +66,9 @@ module _ (early late b f : ℕ) (s : List ℕ) where
     unfolding opened
     bound-high h = rw (le-leb 1 b l, lt-leb b mostBound h)
 
-    module _ (h : b ≤ mostBound) where
-      pub form-bad : 1 < f → opened early late b f s ≡ refusal badForm 0
-      unfolding opened
-      form-bad k = rw (le-leb 1 b l, le-leb b mostBound h, lt-leb f 1 k)
-
-      module _ (k : f ≤ 1) where
-        pub early-refused : (early ≡ 0 → ⊥) → opened early late b f s ≡ refusal early 0
-        unfolding opened
-        early-refused n = rw (le-leb 1 b l, le-leb b mostBound h, le-leb f 1 k, ne-eqb early 0 n)
-
-        pub opened-is : early ≡ 0 → opened early late b f s ≡ tableRead late s
-        unfolding opened
-        opened-is z = rw (le-leb 1 b l, le-leb b mostBound h, le-leb f 1 k, eq-eqb early 0 z)
+    pub opened-is : b ≤ mostBound → opened early late b f s ≡ formRead early late f s
+    unfolding opened
+    opened-is h = rw (le-leb 1 b l, le-leb b mostBound h)
 
 module _ (l budget : ℕ) where
   pub limit-low : l < 1 → searchNumber l budget ≡ badLimits

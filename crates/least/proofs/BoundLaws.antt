@@ -9,7 +9,7 @@ use native.Mathlib.Decide.{ℕ-discrete}
 use lib.ListN.{length, getD, set, drop, replicate, length-replicate, drop-of-length-le, length-drop, length-set}
 use lib.Seq.{drop-cons, getD-set-same, getD-set-other}
 use borrow.Author.Tests.{lt-ltb, le-ltb, le-leb, lt-leb}
-use Rattle.rules.specs.Tables.{Table, Method, actionCount, taskCount, startTask, method}
+use Rattle.rules.specs.Tables.{Table, actionCount, taskCount, startTask, method}
 use Rattle.rules.specs.Limits.{mostBound}
 use Rattle.rules.specs.LeastBounds.{unknown, boundOf, rise, methodBound, lowers, improve, round, settled, upToMost}
 use Rattle.laws.specs.Bounds.{Kept}
@@ -49,18 +49,18 @@ pub bound-end : (v ts : List ℕ) (j best x : ℕ) → length ts ≤ j → max b
 bound-end v ts j best x h e = let d : max best 0 ≡ x = rw (drop-of-length-le ts h) at e in omega arith
 
 -- The head's bound is lowered, or stays.
-module _ (v : List ℕ) (m : Method) (head next : ℕ) (h : head ≡ m .head) (n : next ≡ methodBound v m) (l : head < length v) where
-  old : getD v head 0 ≡ boundOf v (m .head)
+module _ (f : ℕ) (t : Table) (v : List ℕ) (k head next : ℕ) (h : head ≡ method t k .head) (n : next ≡ methodBound f t v k) (l : head < length v) where
+  old : getD v head 0 ≡ boundOf v (method t k .head)
   old = bound-in v head l ∙ ap (boundOf v) h
 
-  pub lowered : next < getD v head 0 → (set v head next ≡ improve v m) × (true ≡ lowers v m)
+  pub lowered : next < getD v head 0 → (set v head next ≡ improve f t v k) × (true ≡ lowers f t v k)
   lowered i =
-      let q : lowers v m ≡ true = lt-ltb (methodBound v m) (boundOf v (m .head)) (omega (arith, old)) in
+      let q : lowers f t v k ≡ true = lt-ltb (methodBound f t v k) (boundOf v (method t k .head)) (omega (arith, old)) in
       (rw (q, h, n), sym q)
 
-  pub stayed : getD v head 0 ≤ next → (v ≡ improve v m) × (false ≡ lowers v m)
+  pub stayed : getD v head 0 ≤ next → (v ≡ improve f t v k) × (false ≡ lowers f t v k)
   stayed i =
-      let q : lowers v m ≡ false = le-ltb (methodBound v m) (boundOf v (m .head)) (omega (arith, old)) in
+      let q : lowers f t v k ≡ false = le-ltb (methodBound f t v k) (boundOf v (method t k .head)) (omega (arith, old)) in
       (rw q, sym q)
 
 -- The starting task's bound, or 0.
@@ -75,14 +75,14 @@ module _ (t : Table) (v : List ℕ) (start : ℕ) (e : start ≡ startTask t) (l
   start-high h = sym (rw (← found, lt-leb (getD v start 0) mostBound h))
 
 -- One more method of a round.
-module _ (t : Table) (v w : List ℕ) (k : ℕ) (e : w ≡ round t v k) where
-  pub round-more : (x : List ℕ) → x ≡ improve w (method t k) → x ≡ round t v (k + 1)
-  round-more x i = i ∙ ap (λ (u : List ℕ). improve u (method t k)) e ∙ ap (round t v) (sym (add-one k))
+module _ (f : ℕ) (t : Table) (v w : List ℕ) (k : ℕ) (e : w ≡ round f t v k) where
+  pub round-more : (x : List ℕ) → x ≡ improve f t w k → x ≡ round f t v (k + 1)
+  round-more x i = i ∙ ap (λ (u : List ℕ). improve f t u k) e ∙ ap (round f t v) (sym (add-one k))
 
-  pub lowered-more : (b r : Bool) → b ≡ not (settled t v k) → r ≡ lowers w (method t k) → (b || r) ≡ not (settled t v (k + 1))
+  pub lowered-more : (b r : Bool) → b ≡ not (settled f t v k) → r ≡ lowers f t w k → (b || r) ≡ not (settled f t v (k + 1))
   lowered-more b r d i =
-      ap₂ _||_ d (i ∙ ap (λ (u : List ℕ). lowers u (method t k)) e) ∙ settled-more t v k
-      ∙ ap (λ (n : ℕ). not (settled t v n)) (sym (add-one k))
+      ap₂ _||_ d (i ∙ ap (λ (u : List ℕ). lowers f t u k) e) ∙ settled-more f t v k
+      ∙ ap (λ (n : ℕ). not (settled f t v n)) (sym (add-one k))
 
 -- One more bound is 1.
 pub ones-more : (old : List ℕ) (i : ℕ) (v : List ℕ) → i < length v → Ones old i v → Ones old (i + 1) (set v i 1)
@@ -103,6 +103,6 @@ none-known zero c = refl
 none-known (suc n) zero = refl
 none-known (suc n) (suc c) = none-known n c
 
-pub ones-kept : (t : Table) (n a : ℕ) (v : List ℕ) → a ≡ actionCount t → taskCount t ≤ n → Ones (replicate n unknown) a v → Kept t v
-ones-kept t n a v e l q =
-    begins t v (omega (arith, q .size, length-replicate {A = ℕ} n unknown)) (λ c h. q .low c (omega arith)) (λ c h. q .high c (omega arith) ∙ none-known n c)
+pub ones-kept : (f : ℕ) (t : Table) (n a : ℕ) (v : List ℕ) → a ≡ actionCount t → taskCount t ≤ n → Ones (replicate n unknown) a v → Kept f t v
+ones-kept f t n a v e l q =
+    begins f t v (omega (arith, q .size, length-replicate {A = ℕ} n unknown)) (λ c h. q .low c (omega arith)) (λ c h. q .high c (omega arith) ∙ none-known n c)

@@ -1,10 +1,11 @@
-// The least bound of a table in words, found in rounds over its methods.
+// The least bound of a table in words, for a form: found in rounds over its methods.
 ghost use mathlib.Core.Path.{_≡_};
 ghost use mathlib.Core.Bool.{not};
 ghost use Prim.Native.Nat.{_<_, _≤_, max};
 ghost use lib.ListN.{length};
 ghost use lib.Dec.{T};
-ghost use Rattle.rules.specs.Tables.{taskCount, methodCount, startTask, method};
+ghost use Rattle.rules.specs.Tables.{taskCount, methodCount, startTask};
+ghost use Rattle.rules.specs.Progression.{prefix};
 ghost use Rattle.rules.specs.LeastBounds.{boundOf, methodBound, lowers, improve, round, settled, upToMost, leastBound};
 ghost use Rattle.laws.specs.Bounds.{Kept};
 ghost use Rattle.least.specs.Ones.{Ones};
@@ -23,14 +24,35 @@ fn higher(a: u64, b: u64) -> u64
     if a < b { b } else { a }
 }
 
-// How high method k's subtasks rise, each above those after it.
-fn method_bound(words: &[u64], k: usize, bounds: &[u8]) -> u64
+// How many actions method k takes with it. `operators` joins them as it counts; here that would cost a table of many rounds.
+fn prefix_length(words: &[u64], form: u64, k: usize) -> usize
+    requires { ⌜ Held (now words) × (k < methodCount (tableOf (now words))) ⌝ }
+    ensures { λ r. ⌜ r ≡ length (prefix form (tableOf (now (words .entry))) k) ⌝ }
+{
+    if form == 0 {
+        return 0;
+    }
+    let n = words::width_of(words, k);
+    let actions = words::action_count(words) as usize;
+    let mut count = 0;
+    while count < n {
+        let task = words::subtask(words, k, count);
+        if actions <= task {
+            return count;
+        }
+        count += 1;
+    }
+    count
+}
+
+// How high those of method k's subtasks rise that stay, each above those after it; at least to the place of its head.
+fn method_bound(words: &[u64], form: u64, k: usize, bounds: &[u8]) -> u64
     requires { ⌜ Held (now words) × (k < methodCount (tableOf (now words))) × (taskCount (tableOf (now words)) ≤ length (now bounds)) ⌝ }
-    ensures { λ r. ⌜ r ≡ methodBound (now (bounds .entry)) (method (tableOf (now (words .entry))) k) ⌝ }
+    ensures { λ r. ⌜ r ≡ methodBound form (tableOf (now (words .entry))) (now (bounds .entry)) k ⌝ }
 {
     let n = words::width_of(words, k);
     let mut best: u64 = 1;
-    let mut j = 0;
+    let mut j = prefix_length(words, form, k);
     while j < n {
         let task = words::subtask(words, k, j);
         let own = bounds[task] as u64;
@@ -42,13 +64,13 @@ fn method_bound(words: &[u64], k: usize, bounds: &[u8]) -> u64
 }
 
 // Lowers the bound of method k's head where the method does.
-fn improve_one(words: &[u64], k: usize, bounds: &mut [u8]) -> bool
+fn improve_one(words: &[u64], form: u64, k: usize, bounds: &mut [u8]) -> bool
     requires { ⌜ Held (now words) × (k < methodCount (tableOf (now words))) × (taskCount (tableOf (now words)) ≤ length (now bounds)) ⌝ }
-    ensures { λ r. ⌜ now (bounds .exit) ≡ improve (now (bounds .entry)) (method (tableOf (now (words .entry))) k) ⌝ }
-    ensures { λ r. ⌜ r ≡ lowers (now (bounds .entry)) (method (tableOf (now (words .entry))) k) ⌝ }
+    ensures { λ r. ⌜ now (bounds .exit) ≡ improve form (tableOf (now (words .entry))) (now (bounds .entry)) k ⌝ }
+    ensures { λ r. ⌜ r ≡ lowers form (tableOf (now (words .entry))) (now (bounds .entry)) k ⌝ }
 {
     let head = words::head_of(words, k);
-    let next = method_bound(words, k, bounds);
+    let next = method_bound(words, form, k, bounds);
     let old = bounds[head] as u64;
     if next < old {
         bounds[head] = next as u8;
@@ -58,16 +80,16 @@ fn improve_one(words: &[u64], k: usize, bounds: &mut [u8]) -> bool
 }
 
 // Each method in turn; whether one of them lowered a bound.
-fn one_round(words: &[u64], bounds: &mut [u8]) -> bool
-    requires { ⌜ Held (now words) × Kept (tableOf (now words)) (now bounds) ⌝ }
-    ensures { λ r. ⌜ now (bounds .exit) ≡ round (tableOf (now (words .entry))) (now (bounds .entry)) (methodCount (tableOf (now (words .entry)))) ⌝ }
-    ensures { λ r. ⌜ r ≡ not (settled (tableOf (now (words .entry))) (now (bounds .entry)) (methodCount (tableOf (now (words .entry))))) ⌝ }
+fn one_round(words: &[u64], form: u64, bounds: &mut [u8]) -> bool
+    requires { ⌜ Held (now words) × Kept form (tableOf (now words)) (now bounds) ⌝ }
+    ensures { λ r. ⌜ now (bounds .exit) ≡ round form (tableOf (now (words .entry))) (now (bounds .entry)) (methodCount (tableOf (now (words .entry)))) ⌝ }
+    ensures { λ r. ⌜ r ≡ not (settled form (tableOf (now (words .entry))) (now (bounds .entry)) (methodCount (tableOf (now (words .entry))))) ⌝ }
 {
     let n = words::method_count(words);
     let mut lowered = false;
     let mut k = 0;
     while k < n {
-        let more = improve_one(words, k, bounds);
+        let more = improve_one(words, form, k, bounds);
         lowered = lowered | more;
         k += 1;
     }
@@ -75,14 +97,14 @@ fn one_round(words: &[u64], bounds: &mut [u8]) -> bool
 }
 
 // Rounds until no method lowers a bound.
-fn settle(words: &[u64], bounds: &mut [u8])
-    requires { ⌜ Held (now words) × Kept (tableOf (now words)) (now bounds) ⌝ }
-    ensures { λ r. ⌜ Kept (tableOf (now (words .entry))) (now (bounds .exit)) ⌝ }
-    ensures { λ r. ⌜ T (settled (tableOf (now (words .entry))) (now (bounds .exit)) (methodCount (tableOf (now (words .entry))))) ⌝ }
+fn settle(words: &[u64], form: u64, bounds: &mut [u8])
+    requires { ⌜ Held (now words) × Kept form (tableOf (now words)) (now bounds) ⌝ }
+    ensures { λ r. ⌜ Kept form (tableOf (now (words .entry))) (now (bounds .exit)) ⌝ }
+    ensures { λ r. ⌜ T (settled form (tableOf (now (words .entry))) (now (bounds .exit)) (methodCount (tableOf (now (words .entry))))) ⌝ }
 {
     let mut again = true;
     while again {
-        again = one_round(words, bounds);
+        again = one_round(words, form, bounds);
     }
 }
 
@@ -108,12 +130,12 @@ fn start_bound(words: &[u64], bounds: &[u8]) -> u64
     if bound <= MOST_BOUND { bound } else { 0 }
 }
 
-pub fn least(words: &[u64]) -> u64
+pub fn least(words: &[u64], form: u64) -> u64
     requires { ⌜ Held (now words) ⌝ }
-    ensures { λ r. ⌜ r ≡ leastBound (tableOf (now (words .entry))) ⌝ }
+    ensures { λ r. ⌜ r ≡ leastBound form (tableOf (now (words .entry))) ⌝ }
 {
     let mut bounds = [UNKNOWN; TASKS];
     put_ones(&mut bounds, words::action_count(words) as usize);
-    settle(words, &mut bounds);
+    settle(words, form, &mut bounds);
     start_bound(words, &bounds)
 }

@@ -19,12 +19,19 @@ pub record Opens (o : Answer Table) (goesOn : Type 0) (r : Opening) (w : List �
   pub answers : openingOf r w ≡ o
   pub known : r ≡ Opened → goesOn
 
--- The words hold a table, and the entry's own check has passed; here it has none before the table's length.
+-- The words hold a table, and the entry's own check after the table's length has passed.
 pub record Read (late : ℕ) (w : List ℕ) : Type 0 where
   pub held : Held w
   pub passes : late ≡ 0
 
--- The same with both checks, and bound and form are in range.
+-- The same with both checks, and the form is in range.
+pub record Formed (early late f : ℕ) (w : List ℕ) : Type 0 where
+  pub held : Held w
+  pub first : early ≡ 0
+  pub passes : late ≡ 0
+  pub form : f ≤ 1
+
+-- The bound is too.
 pub record Usable (early late b f : ℕ) (w : List ℕ) : Type 0 where
   pub held : Held w
   pub first : early ≡ 0

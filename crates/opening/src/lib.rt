@@ -2,9 +2,9 @@
 // a check of the entry's own, the table's length, another, the table.
 ghost use Prim.Native.Nat.{_≤_};
 ghost use lib.ListN.{length};
-ghost use Rattle.rules.specs.Refusals.{tableRead, opened};
+ghost use Rattle.rules.specs.Refusals.{tableRead, formRead, opened};
 ghost use Rattle.words.specs.Words.{tableWords};
-ghost use Rattle.opening.specs.Openings.{Opens, Read, Usable};
+ghost use Rattle.opening.specs.Openings.{Opens, Read, Formed, Usable};
 use rules::limits::MOST_BOUND;
 use rules::limits::MOST_TABLE_BYTES;
 use rules::reasons::BAD_BOUND;
@@ -36,6 +36,14 @@ pub fn open(
     if MOST_BOUND < bound {
         return Opening::Refused(BAD_BOUND, 0);
     }
+    open_formed(form, early, table, late, words)
+}
+
+// For entries with a form and no bound.
+pub fn open_formed(form: u64, early: u64, table: &[u8], late: u64, words: &mut [u64]) -> Opening
+    requires { ⌜ tableWords ≤ length (now words) ⌝ }
+    ensures { λ r. ⌜ Opens (formRead early late form (now (table .entry))) (Formed early late form (now (words .exit))) r (now (words .exit)) ⌝ }
+{
     if 1 < form {
         return Opening::Refused(BAD_FORM, 0);
     }
@@ -45,8 +53,7 @@ pub fn open(
     open_table(table, late, words)
 }
 
-// For entries that take the table only.
-pub fn open_table(table: &[u8], late: u64, words: &mut [u64]) -> Opening
+fn open_table(table: &[u8], late: u64, words: &mut [u64]) -> Opening
     requires { ⌜ tableWords ≤ length (now words) ⌝ }
     ensures { λ r. ⌜ Opens (tableRead late (now (table .entry))) (Read late (now (words .exit))) r (now (words .exit)) ⌝ }
 {

@@ -1,16 +1,14 @@
 -- Joining the prefix of a method, a subtask at a time: what is left still gives the whole.
 use mathlib.Core.Path.{_≡_, refl, sym, ap, _∙_}
-use mathlib.Core.List.{List, [], _∷_, map}
-use Prim.Native.Nat.{ℕ, zero, suc, _+_, _≤_, _<_}
-use native.Mathlib.Numerals.{add-one}
+use mathlib.Core.List.{List, [], map}
+use Prim.Native.Nat.{ℕ, _+_, _≤_, _<_}
 use native.Mathlib.Omega.{arith}
-use borrow.Author.Tests.{lt-ltb, le-ltb}
-use lib.ListN.{length, getD, drop, drop-of-length-le}
-use lib.Seq.{drop-cons}
+use lib.ListN.{length, getD, drop}
 use Rattle.rules.specs.Tables.{Table, actionCount, action, method}
 use Rattle.rules.specs.Facts.{Join, noJoin, joinOne, joinFrom, joinOf}
 use Rattle.rules.specs.Progression.{leading}
 use Rattle.rules.specs.Operators.{joined}
+use Rattle.laws.proofs.LeadingLaws.{Counted, leading-more, leading-stops, leading-ends, counted-more, counted-all, prefix-leads}
 use Rattle.facts.specs.Sets.{joinRead}
 use Rattle.operators.specs.Prefixes.{IsPrefix}
 use Rattle.operators.specs.declared.Prefix.{Prefix}
@@ -19,7 +17,7 @@ use Rattle.operators.specs.declared.Prefix.{Prefix}
 pub record Joining (t : Table) (tasks : List ℕ) (j : Join) (i : ℕ) : Type 0 where
   pub within : i ≤ length tasks
   pub sets : joinFrom j (map (action t) (leading (actionCount t) (drop i tasks))) ≡ joinOf (map (action t) (leading (actionCount t) tasks))
-  pub count : i + length (leading (actionCount t) (drop i tasks)) ≡ length (leading (actionCount t) tasks)
+  pub count : Counted (actionCount t) tasks i
 
 -- All of them.
 pub record Whole (t : Table) (tasks : List ℕ) (j : Join) (i : ℕ) : Type 0 where
@@ -31,23 +29,13 @@ unfolding joinOf
 joining-begins t tasks = record { within = omega arith; sets = refl; count = omega arith }
 
 module _ (t : Table) (tasks : List ℕ) (j : Join) (i : ℕ) (h : Joining t tasks j i) where
-  next-task : i < length tasks → drop i tasks ≡ getD tasks i 0 ∷ drop (i + 1) tasks
-  next-task l = drop-cons tasks i 0 l ∙ ap (λ (n : ℕ). getD tasks i 0 ∷ drop n tasks) (sym (add-one i))
-
-  leading-more : i < length tasks → getD tasks i 0 < actionCount t
-      → leading (actionCount t) (drop i tasks) ≡ getD tasks i 0 ∷ leading (actionCount t) (drop (i + 1) tasks)
-  leading-more l a = ap (leading (actionCount t)) (next-task l) ∙ rw (lt-ltb _ _ a)
-
-  leading-stops : i < length tasks → actionCount t ≤ getD tasks i 0 → leading (actionCount t) (drop i tasks) ≡ []
-  leading-stops l a = ap (leading (actionCount t)) (next-task l) ∙ rw (le-ltb _ _ a)
-
   pub joining-more : i < length tasks → getD tasks i 0 < actionCount t → Joining t tasks (joinOne j (action t (getD tasks i 0))) (i + 1)
   unfolding joinFrom
   joining-more l a =
       record {
         within = omega arith;
-        sets = ap (λ (ks : List ℕ). joinFrom j (map (action t) ks)) (sym (leading-more l a)) ∙ h .sets;
-        count = omega (arith, ap length (leading-more l a), h .count);
+        sets = ap (λ (ks : List ℕ). joinFrom j (map (action t) ks)) (sym (leading-more (actionCount t) tasks i l a)) ∙ h .sets;
+        count = counted-more (actionCount t) tasks i l a (h .count);
       }
 
   ends : leading (actionCount t) (drop i tasks) ≡ [] → Whole t tasks j i
@@ -55,14 +43,14 @@ module _ (t : Table) (tasks : List ℕ) (j : Join) (i : ℕ) (h : Joining t task
   ends e =
       record {
         sets = ap (λ (ks : List ℕ). joinFrom j (map (action t) ks)) (sym e) ∙ h .sets;
-        count = omega (arith, ap length e, h .count);
+        count = counted-all (actionCount t) tasks i e (h .count);
       }
 
   pub joining-stops : i < length tasks → actionCount t ≤ getD tasks i 0 → Whole t tasks j i
-  joining-stops l a = ends (leading-stops l a)
+  joining-stops l a = ends (leading-stops (actionCount t) tasks i l a)
 
   pub joining-ends : length tasks ≤ i → Whole t tasks j i
-  joining-ends l = ends (ap (leading (actionCount t)) (drop-of-length-le tasks l))
+  joining-ends l = ends (leading-ends (actionCount t) tasks i l)
 
 -- The prefix in the plain form, and in the prefix form.
 pub plain-prefix : (f : ℕ) (t : Table) (k : ℕ) (r : Prefix) → f ≡ 0 → joinRead (r .join) ≡ noJoin → r .count ≡ 0 → IsPrefix f t k r
@@ -71,5 +59,4 @@ plain-prefix f t k r z j c = record { sets = rw z j; count = rw z c }
 
 pub whole-prefix : (f : ℕ) (t : Table) (k : ℕ) (r : Prefix) → (f ≡ 0 → ⊥) → Whole t (method t k .subs) (joinRead (r .join)) (r .count) → IsPrefix f t k r
 unfolding joined
-whole-prefix zero t k r z w = absurd (z refl)
-whole-prefix (suc f) t k r z w = record { sets = w .sets; count = w .count }
+whole-prefix f t k r z w = let e = prefix-leads f t k z in record { sets = rw e (w .sets); count = rw e (w .count) }

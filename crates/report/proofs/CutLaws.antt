@@ -16,7 +16,7 @@ use Rattle.rules.specs.Tables.{Table}
 use Rattle.rules.specs.Sections.{problemText}
 use Rattle.rules.specs.Plans.{linesOf}
 use Rattle.rules.specs.Checks.{checkLines}
-use Rattle.rules.specs.Refusals.{boundFormed, passed, tableRead, opened, planNumber, wholeProblem, checkPlan, searchNumber, planText, soughtIn, findPlan}
+use Rattle.rules.specs.Refusals.{bounded, formed, passed, tableRead, formRead, opened, planNumber, wholeProblem, checkPlan, searchNumber, planText, soughtIn, findPlan}
 use Rattle.rules.specs.Programs.{boundIn, formIn, pairAt, sizeIn, checkInput, checkOutput, emitInput, emitOutput, limitIn, budgetIn, findInput, findOutput, told, acceptedLine, asItIs}
 use Rattle.laws.proofs.AnswerLaws.{check-passed, refused}
 use Rattle.laws.proofs.RefusalLaws.{table-long, plan-long}
@@ -39,14 +39,14 @@ same-refused (answer a) never g h = absurd (never a refl)
 same-refused (refusal n l) never g h = refl
 
 long-table : (b f : ℕ) (s x y : List ℕ) → mostTableBytes < length s → checkPlan b f s x ≡ checkPlan b f s y
-unfolding checkPlan opened
+unfolding checkPlan opened formRead
 long-table b f s x y h =
-    let barred : (t : Table) → boundFormed b f (refusal tableTooLong 0) ≡ answer t → ⊥ =
+    let barred : (t : Table) → bounded b (formed f (refusal tableTooLong 0)) ≡ answer t → ⊥ =
     λ t e.
     let q = check-passed (leb 1 b && leb b mostBound) badBound 0 _ e in
     refused tableTooLong 0 (check-passed (leb f 1) badForm 0 _ (q .1) .1) in
     rw (table-long (planNumber x) s h, table-long (planNumber y) s h)
-    (same-refused (boundFormed b f (refusal tableTooLong 0)) barred (λ t. checkLines b f t (linesOf x)) (λ t. checkLines b f t (linesOf y)))
+    (same-refused (bounded b (formed f (refusal tableTooLong 0))) barred (λ t. checkLines b f t (linesOf x)) (λ t. checkLines b f t (linesOf y)))
 
 module _ (b f : ℕ) (s : List ℕ) (n : ℕ) where
   -- A table that is cut behind its limit is too long, as it was.
@@ -62,8 +62,8 @@ module _ (b f : ℕ) (s : List ℕ) (n : ℕ) where
   -- An entry that does what it does with the table alone answers as it did.
   opened-cut : {A : Type 0} (early late : ℕ) (g : Table → Answer A) → mostTableBytes < n
       → after (opened early late b f (take n s)) g ≡ after (opened early late b f s) g
-  unfolding opened
-  opened-cut early late g h = ap (λ (x : Answer Table). after (boundFormed b f (passed early x)) g) (table-cut late h)
+  unfolding opened formRead
+  opened-cut early late g h = ap (λ (x : Answer Table). after (bounded b (formed f (passed early x))) g) (table-cut late h)
 
   pub problem-cut : mostTableBytes < n → wholeProblem b f (take n s) ≡ wholeProblem b f s
   unfolding wholeProblem

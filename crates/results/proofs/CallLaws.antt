@@ -10,8 +10,10 @@ use Rattle.rules.specs.Refusals.{countSections, oneSection, checkPlan, expandPl
 use Rattle.theorems.proofs.Demand3.{solves, expansion, expansion-length}
 use Rattle.theorems.proofs.RefusalNumbers.{handed, no-value, count-numbers, section-numbers, check-numbers, expand-numbers, least-numbers}
 use Rattle.theorems.proofs.Completion.{counted, count-zero, section-is, section-zero, least-zero, least-least, completes-accepted, check-zero, expand-zero}
+use Rattle.theorems.specs.Hints.{Reaches}
+use Rattle.theorems.proofs.HintLaws.{completes-reaches, accepted-reaches}
 use Rattle.sought.specs.Outcomes.{Finds}
-use Rattle.sought.proofs.SearchAnswers.{search-answer}
+use Rattle.sought.proofs.SearchAnswers.{search-answer, search-says}
 use Rattle.results.specs.Calls.{SectionsCalls, SectionCalls, LeastCalls, CheckCalls, ExpandCalls, SearchWrites}
 
 module _ (b f : ℕ) (s : List ℕ) where
@@ -37,15 +39,15 @@ module _ (b f : ℕ) (s : List ℕ) where
         nothing = no-value length (oneSection b f s k all at);
       }
 
-pub least-says : (s : List ℕ)
-    → let a = findLeast s in
-    LeastCalls s (numberOf a) (placeOf a) (valueOf itself a)
-least-says s =
+pub least-says : (f : ℕ) (s : List ℕ)
+    → let a = findLeast f s in
+    LeastCalls f s (numberOf a) (placeOf a) (valueOf itself a)
+least-says f s =
     record {
-      zero = least-zero s;
-      least = least-least s;
-      refusal = handed (findLeast s) (least-numbers s);
-      nothing = no-value itself (findLeast s);
+      zero = least-zero f s;
+      least = least-least f s;
+      refusal = handed (findLeast f s) (least-numbers f s);
+      nothing = no-value itself (findLeast f s);
     }
 
 module _ (b f : ℕ) (s plan : List ℕ) where
@@ -85,6 +87,16 @@ module _ (b f : ℕ) (s plan : List ℕ) where
         refusal = handed (expandPlan b f s plan all) (expand-numbers b f s plan all);
         nothing = no-value length (expandPlan b f s plan all);
       }
+
+-- Where a plan is accepted, or found, its form has a least bound, and the plan's is not below it.
+pub check-reaches : (b f : ℕ) (s plan : List ℕ) → numberOf (checkPlan b f s plan) ≡ 0 → Reaches b (valueOf itself (findLeast f s))
+check-reaches b f s plan e = completes-reaches b f s plan (check-zero b f s plan .0 e)
+
+pub search-reaches : (b f l budget : ℕ) (s : List ℕ) (room : ℕ) → numberOf (searchPlan b f l budget s room) ≡ 0 → Reaches b (valueOf itself (findLeast f s))
+search-reaches b f l budget s room e =
+    let a = search-says b f l budget s room in
+    let q = a .zero .0 e in
+    accepted-reaches b f s (planText (q .0)) _ (a .accepted (q .0) (q .1))
 
 module _ (b f l budget : ℕ) (s old : List ℕ) where
   pub search-wrote :

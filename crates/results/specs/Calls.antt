@@ -10,7 +10,7 @@ use Rattle.rules.specs.Plans.{linesOf}
 use Rattle.rules.specs.LeastBounds.{Least}
 use Rattle.rules.specs.Refusals.{Sought, planText, planBytes}
 use Rattle.theorems.specs.Solutions.{Solution, actionsOf, summed}
-use Rattle.theorems.specs.Demand.{Given, TableOf, Accepted, Completes, stepsOfPlan}
+use Rattle.theorems.specs.Demand.{Given, GivenForm, Accepted, Completes, stepsOfPlan}
 use Rattle.theorems.specs.Numbers.{leastNumbers, sectionsNumbers, sectionNumbers, checkNumbers, expandNumbers, Handed, Never, Nothing, RoomForSection, ShortSection, ShortSteps}
 use Rattle.sought.specs.Outcomes.{Finds}
 
@@ -26,9 +26,9 @@ pub record SectionCalls (bound form : ℕ) (table : List ℕ) (index room at num
   pub refusal : Handed sectionNumbers (length table) 0 (ShortSection bound form table index room at) Never number place
   pub nothing : Nothing number bytes
 
-pub record LeastCalls (table : List ℕ) (number place bound : ℕ) : Type 0 where
-  pub zero : (number ≡ 0) ↔ ((t : Table) × TableOf table t)
-  pub least : (t : Table) → TableOf table t → Least t bound
+pub record LeastCalls (form : ℕ) (table : List ℕ) (number place bound : ℕ) : Type 0 where
+  pub zero : (number ≡ 0) ↔ ((t : Table) × GivenForm form table t)
+  pub least : (t : Table) → GivenForm form table t → Least form t bound
   pub refusal : Handed leastNumbers (length table) 0 Never Never number place
   pub nothing : Nothing number bound
 

@@ -3,7 +3,7 @@ use Prim.Native.Nat.{ℕ, zero, suc, _+_, _-_}
 use mathlib.Core.Bool.{Bool, true, false, _&&_, cond}
 use mathlib.Core.List.{List, [], _∷_, _++_, tail}
 use lib.ListN.{length, drop}
-use lib.Dec.{eqb, ltb}
+use lib.Dec.{eqb, leb, ltb}
 use Rattle.rules.specs.Tables.{Table, actionCount, methodCount, startTask, startFacts, action, method}
 use Rattle.rules.specs.Facts.{holds, changed}
 
@@ -92,9 +92,14 @@ stays f t k = drop (length (prefix f t k)) (method t k .subs)
 abbrev pub remain : ℕ → Table → ℕ → ℕ
 remain f t k = length (method t k .subs) - length (prefix f t k)
 
--- How many prefix actions are due after a step, where `o` were before it. "resting points are the start, the end of a method
--- with that whole run, and the end of a single action": those where none is due.
+-- How many prefix actions are due after a step, where `o` were before it.
 abbrev pub due : ℕ → Table → ℕ → Step → ℕ
 due f t zero (act k) = zero
 due f t (suc o) (act k) = o
 due f t o (mth k) = length (prefix f t k)
+
+-- "resting points are the start, the end of a method with that whole run, and the end of a single action": those where none is due.
+-- At such a point the stack's height is within the bound b.
+abbrev pub resting : ℕ → ℕ → List ℕ → Bool
+resting b zero st = leb (length st) b
+resting b (suc o) st = true

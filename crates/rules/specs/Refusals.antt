@@ -1,6 +1,6 @@
 -- "Refusal numbers": the order of checks, entry by entry, and what each entry answers for all inputs.
--- "Checks run in this order, an entry skipping what it lacks": every entry opens its table first, bound and form before it where the
--- entry has them, and what it does then it does with the table alone.
+-- "Checks run in this order, an entry skipping what it lacks": every entry opens its table first, the form before it, and the bound
+-- before that where the entry has one; what it does then it does with the table alone.
 use Prim.Native.Nat.{ℕ, _+_}
 use mathlib.Core.Bool.{_&&_, cond}
 use mathlib.Core.List.{List, [], _++_}
@@ -20,9 +20,13 @@ use Rattle.rules.specs.Checks.{Tally, checkLines, stepBytes}
 use Rattle.rules.specs.LeastBounds.{leastBound}
 use Rattle.rules.specs.Walks.{Walked, walk}
 
--- 1 "bound not 1 to 64"; 2 "form not 0 or 1".
-abbrev pub boundFormed : {A : Type 0} → ℕ → ℕ → Answer A → Answer A
-boundFormed b f rest = check (leb 1 b && leb b mostBound) badBound 0 (check (leb f 1) badForm 0 rest)
+-- 1 "bound not 1 to 64".
+abbrev pub bounded : {A : Type 0} → ℕ → Answer A → Answer A
+bounded b rest = check (leb 1 b && leb b mostBound) badBound 0 rest
+
+-- 2 "form not 0 or 1".
+abbrev pub formed : {A : Type 0} → ℕ → Answer A → Answer A
+formed f rest = check (leb f 1) badForm 0 rest
 
 -- 3 "table too long": "A table is at most 32,768 bytes."
 abbrev pub tableFits : {A : Type 0} → List ℕ → Answer A → Answer A
@@ -42,13 +46,17 @@ abbrev pub readOf : {A : Type 0} → Reading A → Answer A
 readOf (got a at) = answer a
 readOf (bad why at) = refusal why at
 
--- The table, for an entry that takes no bound: 3, its own check, 5 to 9.
+-- The table: 3, a check of the entry's own, 5 to 9.
 unfoldable pub tableRead : ℕ → List ℕ → Answer Table
 tableRead late s = tableFits s (passed late (readOf (decode s)))
 
--- The table, for an entry with bound and form: 1 2, a check of its own, 3, another, 5 to 9.
+-- The table, for an entry with a form: 2, a check of its own, then the table.
+unfoldable pub formRead : ℕ → ℕ → ℕ → List ℕ → Answer Table
+formRead early late f s = formed f (passed early (tableRead late s))
+
+-- The table, for an entry with bound and form: 1, then the same.
 unfoldable pub opened : ℕ → ℕ → ℕ → ℕ → List ℕ → Answer Table
-opened early late b f s = boundFormed b f (passed early (tableRead late s))
+opened early late b f s = bounded b (formRead early late f s)
 
 -- 16 "too little room", at "bytes to write", for n bytes from the place `at` on of a text of `size`. "A writing place past the end is
 -- no room."
@@ -91,9 +99,9 @@ stepsFor b f t plan size =
 unfoldable pub expandPlan : ℕ → ℕ → List ℕ → List ℕ → ℕ → Answer (List ℕ)
 expandPlan b f s plan size = after (opened 0 (planNumber plan) b f s) (λ t. stepsFor b f t plan size)
 
--- Least bound: "takes the table only", 3 5-9.
-unfoldable pub findLeast : List ℕ → Answer ℕ
-findLeast s = after (tableRead 0 s) (λ t. answer (leastBound t))
+-- Least bound, document 02, C-12: it takes form and table, "2 now applies to this entry": 2 3 5-9.
+unfoldable pub findLeast : ℕ → List ℕ → Answer ℕ
+findLeast f s = after (formRead 0 0 f s) (λ t. answer (leastBound f t))
 
 -- Document 02, C-11. 17 "L or the budget out of range, after 2": a check before the table's length.
 unfoldable pub searchNumber : ℕ → ℕ → ℕ

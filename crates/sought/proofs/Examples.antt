@@ -12,7 +12,7 @@ use Rattle.rules.specs.Progression.{act, mth}
 use Rattle.rules.specs.Operators.{Operator, joined, positions}
 use Rattle.rules.specs.Plans.{textsOf}
 use Rattle.rules.specs.Walks.{picks, choices, among, walk}
-use Rattle.rules.specs.Refusals.{tableRead, opened, searchNumber, Sought, searchPlan, textFound}
+use Rattle.rules.specs.Refusals.{tableRead, formRead, opened, searchNumber, Sought, searchPlan, textFound}
 use Rattle.theorems.proofs.Examples.{tableT, tableU}
 use Rattle.sought.specs.Findings.{appliedInT}
 
@@ -41,5 +41,5 @@ pub searches :
     × (searchPlan 1 0 257 0 [] 14 ≡ refusal 17 0)
     × (searchPlan 1 0 256 1000001 [] 14 ≡ refusal 17 0)
     × (searchPlan 1 0 256 1000000 [] 14 ≡ refusal 5 0)
-unfolding many groupsBefore groupsValue sound numberAt inRange ranged header readAction readMethod closed decode without joinOne joinFrom joinOf joined positions digitsF digits textsOf picks choices among walk tableRead opened searchNumber searchPlan
+unfolding many groupsBefore groupsValue sound numberAt inRange ranged header readAction readMethod closed decode without joinOne joinFrom joinOf joined positions digitsF digits textsOf picks choices among walk tableRead formRead opened searchNumber searchPlan
 searches = (refl, refl, refl, refl, refl, refl, refl, refl, refl, refl, refl, refl, refl, refl)

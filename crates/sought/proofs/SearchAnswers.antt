@@ -94,7 +94,7 @@ module _ (b f l budget : ℕ) (s : List ℕ) where
           subst (λ (k : ℕ). Opening Short k 0) (sym (limit-number l budget n)) (record { listed = tt; placed = refl })
 
       refuses : Refuses (Opening Short) (opened (searchNumber l budget) 0 b f s)
-      refuses = of-opening openNumbers s 0 Short (FindsNone b f l budget s) tt (searchNumber l budget) 0 limits (λ n. absurd (n refl)) b f
+      refuses = of-opening openNumbers s 0 Short (FindsNone b f l budget s) (searchNumber l budget) 0 limits (λ n. absurd (n refl)) tt b f
 
       judge : (t : Table) → Posed b f l budget s t → (c : Bool) (p : Option (List Operator)) (n : ℕ) → leb n budget ≡ c → IsPlan b f t l p
           → NumberApplied b f t l p n

@@ -14,11 +14,11 @@ use Rattle.rules.specs.Checks.{accepted}
 use Rattle.rules.specs.Refusals.{checkPlan, Sought, planText, planBytes}
 use Rattle.rules.specs.Searches.{Found, NoneWithin, IsPlan, NumberApplied}
 use Rattle.theorems.specs.Demand.{Given}
-use Rattle.theorems.specs.Numbers.{leastNumbers, Handed, Nothing}
+use Rattle.theorems.specs.Numbers.{readNumbers, Handed, Nothing}
 
 -- Which refusals there are of finding a plan, and of a search; what comes before what is said by what each means.
 abbrev pub findNumbers : List ℕ
-findNumbers = badBound ∷ badForm ∷ badLimits ∷ leastNumbers ++ (overBudget ∷ noPlan ∷ [])
+findNumbers = badBound ∷ badForm ∷ badLimits ∷ readNumbers ++ (overBudget ∷ noPlan ∷ [])
 
 abbrev pub searchNumbers : List ℕ
 searchNumbers = findNumbers ++ (noRoom ∷ [])

@@ -9,23 +9,22 @@ use native.Mathlib.Omega.{arith}
 use lib.ListN.{length, getD}
 use lib.Dec.{leb, ltb, leb→le, ltb→lt, lt→ltb}
 use Rattle.basics.specs.Answers.{Answer, answer, refusal, numberOf, valueOf, itself, after}
-use Rattle.rules.specs.Limits.{mostTableBytes}
-use Rattle.rules.specs.Reasons.{tableTooLong, noSuchSection, noRoom}
+use Rattle.rules.specs.Reasons.{noSuchSection, noRoom}
 use Rattle.rules.specs.Tables.{Table}
 use Rattle.rules.specs.Progression.{totalCost}
 use Rattle.rules.specs.Sections.{sectionsOf}
 use Rattle.rules.specs.Plans.{linesOf, opersOf}
 use Rattle.rules.specs.Checks.{Tally, accepted, stepBytes}
 use Rattle.rules.specs.LeastBounds.{Least, leastBound}
-use Rattle.rules.specs.Refusals.{tableRead, opened, roomOf, roomFor, countSections, chosen, sectionFor, oneSection, checkPlan, expandPlan, findLeast}
+use Rattle.rules.specs.Refusals.{formRead, opened, roomOf, roomFor, countSections, chosen, sectionFor, oneSection, checkPlan, expandPlan, findLeast}
 use Rattle.laws.proofs.TestLaws.{cond-true}
 use Rattle.laws.proofs.AnswerLaws.{refused, check-passed, after-passed}
 use Rattle.laws.proofs.StepLaws.{bytes-length}
-use Rattle.laws.proofs.RefusalLaws.{table-is, read-valid, room-short, room-fits}
+use Rattle.laws.proofs.RefusalLaws.{read-valid, room-short, room-fits}
 use Rattle.laws.proofs.RoundLaws.{computed}
-use Rattle.theorems.specs.Demand.{Given, TableOf, Completes, stepsOfPlan}
+use Rattle.theorems.specs.Demand.{Given, GivenForm, Completes, stepsOfPlan}
 use Rattle.theorems.specs.Numbers.{RoomForSection}
-use Rattle.theorems.proofs.Demand3.{opened-given, accepted-given, opens, accepts, expansion, expansion-is}
+use Rattle.theorems.proofs.Demand3.{form-given, opened-given, accepted-given, form-opens, opens, accepts, expansion, expansion-is}
 use Rattle.theorems.proofs.Expansion.{expansion-refused}
 use Rattle.theorems.proofs.RefusalNumbers.{count-numbers, section-numbers, check-numbers, least-numbers}
 
@@ -74,25 +73,24 @@ module _ (b f : ℕ) (s : List ℕ) where
       (λ q. ap numberOf (section-is q)),
     )
 
--- The least bound handed back is the least of the table.
-module _ (s : List ℕ) where
-  pub least-is : (t : Table) → TableOf s t → findLeast s ≡ answer (leastBound t)
+-- The least bound handed back is the least of the table in that form.
+module _ (f : ℕ) (s : List ℕ) where
+  pub least-is : (t : Table) → GivenForm f s t → findLeast f s ≡ answer (leastBound f t)
   unfolding findLeast
-  least-is t q = ap (λ (a : Answer Table). after a (λ t. answer (leastBound t))) (table-is 0 s (q .size) refl ∙ q .reads)
+  least-is t q = ap (λ (a : Answer Table). after a (λ t. answer (leastBound f t))) (form-opens q 0 0 refl refl)
 
-  pub least-zero : (numberOf (findLeast s) ≡ 0) ↔ ((t : Table) × TableOf s t)
-  unfolding findLeast tableRead
+  pub least-zero : (numberOf (findLeast f s) ≡ 0) ↔ ((t : Table) × GivenForm f s t)
+  unfolding findLeast
   least-zero = (
     (λ e.
-        let z = least-numbers s .zero .0 e in
-        let q = after-passed (tableRead 0 s) (λ t. answer (leastBound t)) (z .1) in
-        let l = check-passed (leb (length s) mostTableBytes) tableTooLong 0 _ (q .1) in
-        (q .0, record { size = leb→le (length s) mostTableBytes (l .0); reads = l .1 })),
+        let z = least-numbers f s .zero .0 e in
+        let q = after-passed (formRead 0 0 f s) (λ t. answer (leastBound f t)) (z .1) in
+        (q .0, form-given 0 0 f s (q .0) (q .1) .0)),
     (λ q. ap numberOf (least-is (q .0) (q .1))),
   )
 
-  pub least-least : (t : Table) → TableOf s t → Least t (valueOf itself (findLeast s))
-  least-least t q = subst (Least t) (sym (ap (valueOf itself) (least-is t q))) (computed t (read-valid s t (q .reads)))
+  pub least-least : (t : Table) → GivenForm f s t → Least f t (valueOf itself (findLeast f s))
+  least-least t q = subst (Least f t) (sym (ap (valueOf itself) (least-is t q))) (computed f t (read-valid s t (q .reads)))
 
 module _ (b f : ℕ) (s plan : List ℕ) where
   -- What completes a run is accepted, with the run's numbers; and what is accepted completes one.

@@ -16,14 +16,14 @@ use Rattle.rules.specs.Progression.{State, Step, act, mth, height, allowed, aft
 use Rattle.rules.specs.Operators.{Operator, expand, expandAll}
 use Rattle.rules.specs.Plans.{Line, oper, linesOf, opersOf, shaped, textsOf}
 use Rattle.rules.specs.Checks.{Tally, accepted, checkLines, stepBytes}
-use Rattle.rules.specs.Refusals.{tableRead, opened, planNumber, roomFor, checkPlan, stepsFor, expandPlan}
+use Rattle.rules.specs.Refusals.{tableRead, formRead, opened, planNumber, roomFor, checkPlan, stepsFor, expandPlan}
 use Rattle.laws.specs.Valid.{Valid}
 use Rattle.laws.proofs.AnswerLaws.{check-passed, after-passed}
-use Rattle.laws.proofs.RefusalLaws.{table-is, read-valid, opened-is, plan-fits, plan-small, room-fits}
+use Rattle.laws.proofs.RefusalLaws.{table-is, form-is, read-valid, opened-is, plan-fits, plan-small, room-fits}
 use Rattle.theorems.specs.Runs.{Run, CompleteRun, TrueHeights}
 use Rattle.theorems.specs.Shapes.{stepNumber}
 use Rattle.theorems.specs.Solutions.{Solution, actionsOf, summed}
-use Rattle.theorems.specs.Demand.{Given, Accepted, ListOf, Fitting}
+use Rattle.theorems.specs.Demand.{Given, GivenForm, Accepted, ListOf, Fitting}
 use Rattle.theorems.specs.StepLists.{stepsOf, Numbered, AllBytes}
 use Rattle.laws.proofs.TestLaws.{and-l, and-r}
 use Rattle.laws.proofs.StepLaws.{bytes-length}
@@ -69,23 +69,32 @@ numbered t v f b o s (act k ∷ xs) r = let q = known t s (act k) (r .0) in (ome
 numbered t v f b o s (mth k ∷ xs) r = let q = known t s (mth k) (r .0) in (omega (arith, v .head .methods), numbered t v f b _ _ xs (r .2))
 
 -- What is opened is in range, passed the entry's own checks, and its table was read.
+pub form-given : (early late f : ℕ) (s : List ℕ) (t : Table) → formRead early late f s ≡ answer t → GivenForm f s t × (late ≡ 0) × (early ≡ 0)
+unfolding formRead tableRead
+form-given early late f s t e =
+    let q1 = check-passed (leb f 1) badForm 0 _ e in
+    let q2 = check-passed (eqb early 0) early 0 _ (q1 .1) in
+    let q3 = check-passed (leb (length s) mostTableBytes) tableTooLong 0 _ (q2 .1) in
+    let q4 = check-passed (eqb late 0) late 0 _ (q3 .1) in (
+      record { form = leb→le f 1 (q1 .0); size = leb→le (length s) mostTableBytes (q3 .0); reads = q4 .1 },
+      eqb→eq late 0 (q4 .0),
+      eqb→eq early 0 (q2 .0),
+    )
+
 pub opened-given : (early late b f : ℕ) (s : List ℕ) (t : Table) → opened early late b f s ≡ answer t → Given b f s t × (late ≡ 0) × (early ≡ 0)
-unfolding opened tableRead
+unfolding opened
 opened-given early late b f s t e =
-    let q1 = check-passed (leb 1 b && leb b mostBound) badBound 0 _ e in
-    let q2 = check-passed (leb f 1) badForm 0 _ (q1 .1) in
-    let q3 = check-passed (eqb early 0) early 0 _ (q2 .1) in
-    let q4 = check-passed (leb (length s) mostTableBytes) tableTooLong 0 _ (q3 .1) in
-    let q5 = check-passed (eqb late 0) late 0 _ (q4 .1) in (
+    let p = check-passed (leb 1 b && leb b mostBound) badBound 0 _ e in
+    let q = form-given early late f s t (p .1) in (
       record {
-        low = leb→le 1 b (and-l (leb 1 b) (leb b mostBound) (q1 .0));
-        high = leb→le b mostBound (and-r (leb 1 b) (leb b mostBound) (q1 .0));
-        form = leb→le f 1 (q2 .0);
-        size = leb→le (length s) mostTableBytes (q4 .0);
-        reads = q5 .1;
+        low = leb→le 1 b (and-l (leb 1 b) (leb b mostBound) (p .0));
+        high = leb→le b mostBound (and-r (leb 1 b) (leb b mostBound) (p .0));
+        form = q .0 .form;
+        size = q .0 .size;
+        reads = q .0 .reads;
       },
-      eqb→eq late 0 (q5 .0),
-      eqb→eq early 0 (q3 .0),
+      q .1,
+      q .2,
     )
 
 -- So is what is accepted.
@@ -125,11 +134,18 @@ module _ (b f : ℕ) (t : Table) (some : 1 ≤ b) (ls : List Line) (c o k : ℕ)
         steps = omega (arith, q .steps);
       }
 
-module _ {b f : ℕ} {s : List ℕ} {t : Table} (g : Given b f s t) where
-  -- What is in range is opened, where the entry's own checks pass, and comes to the check of the plan's lines.
-  pub opens : (early late : ℕ) → early ≡ 0 → late ≡ 0 → opened early late b f s ≡ answer t
-  opens early late y z = opened-is early late b f s (g .low) (g .high) (g .form) y ∙ table-is late s (g .size) z ∙ g .reads
+-- What is in range is opened, where the entry's own checks pass.
+pub form-opens : {f : ℕ} {s : List ℕ} {t : Table} → GivenForm f s t → (early late : ℕ) → early ≡ 0 → late ≡ 0 → formRead early late f s ≡ answer t
+form-opens {f} {s} g early late y z = form-is early late f s (g .form) y ∙ table-is late s (g .size) z ∙ g .reads
 
+module _ {b f : ℕ} {s : List ℕ} {t : Table} (g : Given b f s t) where
+  pub in-form : GivenForm f s t
+  in-form = record { form = g .form; size = g .size; reads = g .reads }
+
+  pub opens : (early late : ℕ) → early ≡ 0 → late ≡ 0 → opened early late b f s ≡ answer t
+  opens early late y z = opened-is early late b f s (g .low) (g .high) ∙ form-opens in-form early late y z
+
+  -- The check comes to that of the plan's lines.
   checks : (plan : List ℕ) → length plan ≤ mostPlanBytes → checkPlan b f s plan ≡ checkLines b f t (linesOf plan)
   unfolding checkPlan
   checks plan l = ap (λ (a : Answer Table). after a (λ t. checkLines b f t (linesOf plan))) (opens 0 (planNumber plan) refl (plan-fits plan l))

@@ -1,4 +1,4 @@
--- The examples of document 01 that are marked P, from bytes.
+-- The examples of document 01 that are marked P, and the hints of document 02, C-12, from bytes.
 use Prim.Native.Nat.{ℕ}
 use mathlib.Core.Path.{_≡_, refl}
 use mathlib.Core.List.{List, [], _∷_}
@@ -12,7 +12,7 @@ use Rattle.basics.specs.Texts.{bytes}
 use Rattle.rules.specs.Plans.{linesOf}
 use Rattle.rules.specs.Checks.{accepted, checkLines, stepBytes}
 use Rattle.rules.specs.LeastBounds.{leastBound}
-use Rattle.rules.specs.Refusals.{planNumber, tableRead, opened, checkPlan, expandPlan, findLeast}
+use Rattle.rules.specs.Refusals.{planNumber, tableRead, formRead, opened, checkPlan, expandPlan, findLeast}
 
 abbrev pub tableT : List ℕ
 tableT = 1 ∷ 1 ∷ 1 ∷ 1 ∷ 1 ∷ 0 ∷ 1 ∷ 0 ∷ 1 ∷ 0 ∷ 3 ∷ 1 ∷ 1 ∷ 0 ∷ []
@@ -39,6 +39,26 @@ pub examples :
     × (checkPlan 1 0 tableU (bytes "(m0 1)\n") ≡ refusal 12 1)
     × (checkPlan 1 1 tableU (bytes "(m0 1)\n") ≡ accepted 6 1 3)
     × (checkPlan 2 0 tableU (bytes "(m0 1)\n(a0 2)\n(a0 1)\n") ≡ accepted 6 3 3)
-    × (findLeast tableU ≡ answer 2)
-unfolding many groupsBefore groupsValue sound numberAt inRange ranged header readAction readMethod closed decode without joinOne joinFrom joinOf joined positions linesOf checkLines stepBytes planNumber tableRead opened checkPlan expandPlan leastBound findLeast
+    × (findLeast 0 tableU ≡ answer 2)
+unfolding many groupsBefore groupsValue sound numberAt inRange ranged header readAction readMethod closed decode without joinOne joinFrom joinOf joined positions linesOf checkLines stepBytes planNumber tableRead formRead opened checkPlan expandPlan leastBound findLeast
 examples = (refl, refl, refl, refl, refl, refl, refl, refl, refl, refl, refl, refl, refl, refl)
+
+-- T with a method of eight actions: no two forms lie further apart.
+abbrev tableV : List ℕ
+tableV = 1 ∷ 1 ∷ 1 ∷ 1 ∷ 1 ∷ 0 ∷ 1 ∷ 0 ∷ 1 ∷ 0 ∷ 3 ∷ 1 ∷ 8 ∷ 0 ∷ 0 ∷ 0 ∷ 0 ∷ 0 ∷ 0 ∷ 0 ∷ 0 ∷ []
+
+-- Its action needs and deletes the one fact, so the one method, of two of it, is dead in form 1.
+abbrev tableW : List ℕ
+tableW = 1 ∷ 1 ∷ 1 ∷ 1 ∷ 1 ∷ 1 ∷ 0 ∷ 1 ∷ 0 ∷ 1 ∷ 3 ∷ 1 ∷ 2 ∷ 0 ∷ 0 ∷ []
+
+-- "U gives 2 and 1". Form 2 is refused before the table is looked at.
+pub hints :
+    (findLeast 0 tableU ≡ answer 2)
+    × (findLeast 1 tableU ≡ answer 1)
+    × (findLeast 0 tableV ≡ answer 8)
+    × (findLeast 1 tableV ≡ answer 1)
+    × (findLeast 0 tableW ≡ answer 2)
+    × (findLeast 1 tableW ≡ answer 1)
+    × ((s : List ℕ) → findLeast 2 s ≡ refusal 2 0)
+unfolding many groupsBefore groupsValue sound numberAt inRange ranged header readAction readMethod closed decode tableRead formRead leastBound findLeast
+hints = (refl, refl, refl, refl, refl, refl, λ s. refl)

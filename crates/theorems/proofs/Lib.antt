@@ -11,4 +11,6 @@ pub mod Demand3
 pub mod Expansion
 pub mod RefusalNumbers
 pub mod Completion
+pub mod LeastForms
+pub mod HintLaws
 pub mod Examples

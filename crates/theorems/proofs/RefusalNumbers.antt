@@ -20,9 +20,9 @@ use Rattle.rules.specs.Progression.{isEmpty}
 use Rattle.rules.specs.Operators.{expandAll, emitted, applies}
 use Rattle.rules.specs.Plans.{Line, note, oper, other, linesOf, opersOf}
 use Rattle.rules.specs.Checks.{Place, skip, apply, checkFrom, checkLines, stepBytes}
-use Rattle.rules.specs.Refusals.{readOf, tableRead, opened, planNumber, roomOf, roomFor, countSections, chosen, oneSection, wholeProblem, checkPlan, expandPlan, findLeast}
+use Rattle.rules.specs.Refusals.{readOf, tableRead, formRead, opened, planNumber, roomOf, roomFor, countSections, chosen, oneSection, wholeProblem, checkPlan, expandPlan, findLeast}
 use Rattle.rules.specs.Sections.{sectionsOf}
-use Rattle.theorems.specs.Numbers.{oneOf, leastNumbers, sectionsNumbers, sectionNumbers, checkNumbers, expandNumbers, Listed, Tells, Handed, Never, Nothing, ShortSection, ShortSteps}
+use Rattle.theorems.specs.Numbers.{oneOf, readNumbers, leastNumbers, sectionsNumbers, sectionNumbers, checkNumbers, expandNumbers, Listed, Tells, Handed, Never, Nothing, ShortSection, ShortSteps}
 use Rattle.laws.proofs.TestLaws.{and-l, and-r}
 use Rattle.laws.proofs.AnswerLaws.{refused, check-passed}
 use Rattle.laws.proofs.RefusalLaws.{plan-long, plan-fits}
@@ -161,21 +161,13 @@ room-refuses Q size at x h =
     (check-refuses Q (leb (at + length x) size) noRoom (length x) _ (λ n. h (nleb→lt (at + length x) size n)) (λ _. tt))
     (λ a e. tt)
 
--- The opening of a table. An entry's own check is refused with Q.
-module _ (Q : ℕ → ℕ → Type 0) (late : ℕ) (own : (late ≡ 0 → ⊥) → Q late 0) (s : List ℕ) (q : OfTable Q (length s)) where
-  table-refuses : Refuses Q (tableRead late s)
-  unfolding tableRead
-  table-refuses =
-      check-refuses Q (leb (length s) mostTableBytes) tableTooLong 0 _ (λ _. q .long)
-      (λ _. check-refuses Q (eqb late 0) late 0 _ (λ n. own (λ e. rw (eq-eqb late 0 e) at n))
-      (λ _. read-refuses Q (length s) (decode s) (decode-reads Q s q)))
-
-  opened-refuses : Q badBound 0 → Q badForm 0 → (early : ℕ) → ((early ≡ 0 → ⊥) → Q early 0) → (b f : ℕ) → Refuses Q (opened early late b f s)
-  unfolding opened
-  opened-refuses bound form early first b f =
-      check-refuses Q (leb 1 b && leb b mostBound) badBound 0 _ (λ _. bound)
-      (λ _. check-refuses Q (leb f 1) badForm 0 _ (λ _. form)
-      (λ _. check-refuses Q (eqb early 0) early 0 _ (λ n. first (λ e. rw (eq-eqb early 0 e) at n)) (λ _. table-refuses)))
+-- The table; the entry's own check is refused with Q.
+table-refuses : (Q : ℕ → ℕ → Type 0) (late : ℕ) → ((late ≡ 0 → ⊥) → Q late 0) → (s : List ℕ) → OfTable Q (length s) → Refuses Q (tableRead late s)
+unfolding tableRead
+table-refuses Q late own s q =
+    check-refuses Q (leb (length s) mostTableBytes) tableTooLong 0 _ (λ _. q .long)
+    (λ _. check-refuses Q (eqb late 0) late 0 _ (λ n. own (λ e. rw (eq-eqb late 0 e) at n))
+    (λ _. read-refuses Q (length s) (decode s) (decode-reads Q s q)))
 
 -- The check of lines, from a place in a plan of n lines.
 record OfLines (Q : ℕ → ℕ → Type 0) (n : ℕ) : Type 0 where
@@ -226,27 +218,32 @@ module _ (row s : List ℕ) (lines : ℕ) (Short Tried : ℕ → Type 0) where
   abbrev Allowed : ℕ → ℕ → Type 0
   Allowed = Listed row (length s) lines Short Tried
 
-  of-table : T (within leastNumbers row) → OfTable Allowed (length s)
+  of-table : T (within readNumbers row) → OfTable Allowed (length s)
   of-table w =
       record {
-        long = record { listed = in-row leastNumbers row tableTooLong w tt; placed = refl };
-        ends = λ at l. record { listed = in-row leastNumbers row tableEnds w tt; placed = l };
-        form = λ at l. record { listed = in-row leastNumbers row badNumber w tt; placed = l };
-        range = λ at l. record { listed = in-row leastNumbers row outOfRange w tt; placed = l };
-        there = λ at l. record { listed = in-row leastNumbers row notThere w tt; placed = l };
-        behind = λ at l. record { listed = in-row leastNumbers row bytesAfterTable w tt; placed = l };
+        long = record { listed = in-row readNumbers row tableTooLong w tt; placed = refl };
+        ends = λ at l. record { listed = in-row readNumbers row tableEnds w tt; placed = l };
+        form = λ at l. record { listed = in-row readNumbers row badNumber w tt; placed = l };
+        range = λ at l. record { listed = in-row readNumbers row outOfRange w tt; placed = l };
+        there = λ at l. record { listed = in-row readNumbers row notThere w tt; placed = l };
+        behind = λ at l. record { listed = in-row readNumbers row bytesAfterTable w tt; placed = l };
       }
 
-  pub of-opening : T (within sectionsNumbers row) → (early late : ℕ) → ((early ≡ 0 → ⊥) → Allowed early 0) → ((late ≡ 0 → ⊥) → Allowed late 0)
-      → (b f : ℕ)
-      → Refuses Allowed (opened early late b f s)
-  of-opening w early late first own =
-      let v = and-r (oneOf row badBound) (within (badForm ∷ leastNumbers) row) w in
-      opened-refuses Allowed late own s (of-table (and-r (oneOf row badForm) (within leastNumbers row) v))
-      (record { listed = and-l (oneOf row badBound) (within (badForm ∷ leastNumbers) row) w; placed = refl })
-      (record { listed = and-l (oneOf row badForm) (within leastNumbers row) v; placed = refl })
-      early
-      first
+  module _ (early late : ℕ) (first : (early ≡ 0 → ⊥) → Allowed early 0) (own : (late ≡ 0 → ⊥) → Allowed late 0) where
+    of-form : T (within leastNumbers row) → (f : ℕ) → Refuses Allowed (formRead early late f s)
+    unfolding formRead
+    of-form w f =
+        check-refuses Allowed (leb f 1) badForm 0 _
+        (λ _. record { listed = and-l (oneOf row badForm) (within readNumbers row) w; placed = refl })
+        (λ _. check-refuses Allowed (eqb early 0) early 0 _ (λ n. first (λ e. rw (eq-eqb early 0 e) at n))
+        (λ _. table-refuses Allowed late own s (of-table (and-r (oneOf row badForm) (within readNumbers row) w))))
+
+    pub of-opening : T (within sectionsNumbers row) → (b f : ℕ) → Refuses Allowed (opened early late b f s)
+    unfolding opened
+    of-opening w b f =
+        check-refuses Allowed (leb 1 b && leb b mostBound) badBound 0 _
+        (λ _. record { listed = and-l (oneOf row badBound) (within leastNumbers row) w; placed = refl })
+        (λ _. of-form (and-r (oneOf row badBound) (within leastNumbers row) w) f)
 
   of-lines : T (within checkNumbers row) → OfLines Allowed lines
   of-lines w =
@@ -297,26 +294,26 @@ pub count-numbers : (b f : ℕ) (s : List ℕ) → Tells sectionsNumbers (length
 unfolding countSections
 count-numbers b f s =
     numbered sectionsNumbers s 0 Never Never tt (countSections b f s)
-    (after-refuses _ (opened 0 0 b f s) _ (of-opening sectionsNumbers s 0 Never Never tt 0 0 (λ n. absurd (n refl)) (λ n. absurd (n refl)) b f) (λ t e. tt))
+    (after-refuses _ (opened 0 0 b f s) _ (of-opening sectionsNumbers s 0 Never Never 0 0 (λ n. absurd (n refl)) (λ n. absurd (n refl)) tt b f) (λ t e. tt))
 
 pub whole-numbers : (b f : ℕ) (s : List ℕ) → Tells sectionsNumbers (length s) 0 Never Never (wholeProblem b f s)
 unfolding wholeProblem
 whole-numbers b f s =
     numbered sectionsNumbers s 0 Never Never tt (wholeProblem b f s)
-    (after-refuses _ (opened 0 0 b f s) _ (of-opening sectionsNumbers s 0 Never Never tt 0 0 (λ n. absurd (n refl)) (λ n. absurd (n refl)) b f) (λ t e. tt))
+    (after-refuses _ (opened 0 0 b f s) _ (of-opening sectionsNumbers s 0 Never Never 0 0 (λ n. absurd (n refl)) (λ n. absurd (n refl)) tt b f) (λ t e. tt))
 
-pub least-numbers : (s : List ℕ) → Tells leastNumbers (length s) 0 Never Never (findLeast s)
+pub least-numbers : (f : ℕ) (s : List ℕ) → Tells leastNumbers (length s) 0 Never Never (findLeast f s)
 unfolding findLeast
-least-numbers s =
-    numbered leastNumbers s 0 Never Never tt (findLeast s)
-    (after-refuses _ (tableRead 0 s) _ (table-refuses _ 0 (λ n. absurd (n refl)) s (of-table leastNumbers s 0 Never Never tt)) (λ t e. tt))
+least-numbers f s =
+    numbered leastNumbers s 0 Never Never tt (findLeast f s)
+    (after-refuses _ (formRead 0 0 f s) _ (of-form leastNumbers s 0 Never Never 0 0 (λ n. absurd (n refl)) (λ n. absurd (n refl)) tt f) (λ t e. tt))
 
 pub section-numbers : (b f : ℕ) (s : List ℕ) (k all at : ℕ)
     → Tells sectionNumbers (length s) 0 (ShortSection b f s k all at) Never (oneSection b f s k all at)
 unfolding oneSection
 section-numbers b f s k all at =
     numbered sectionNumbers s 0 (ShortSection b f s k all at) Never tt (oneSection b f s k all at)
-    (after-refuses _ (opened 0 0 b f s) _ (of-opening sectionNumbers s 0 (ShortSection b f s k all at) Never tt 0 0 (λ n. absurd (n refl)) (λ n. absurd (n refl)) b f)
+    (after-refuses _ (opened 0 0 b f s) _ (of-opening sectionNumbers s 0 (ShortSection b f s k all at) Never 0 0 (λ n. absurd (n refl)) (λ n. absurd (n refl)) tt b f)
     (λ t e. after-refuses _ (chosen (sectionsOf b f t) k) (roomFor all at)
     (check-refuses _ (ltb k (length (sectionsOf b f t))) noSuchSection 0 _ (λ _. record { listed = tt; placed = refl }) (λ _. tt))
     (λ x d.
@@ -340,7 +337,7 @@ check-numbers b f s plan =
     let n = length (linesOf plan) in
     numbered checkNumbers s n Never Never tt (checkPlan b f s plan)
     (after-refuses _ (opened 0 (planNumber plan) b f s) _
-    (of-opening checkNumbers s n Never Never tt 0 (planNumber plan) (λ n. absurd (n refl)) (of-plan checkNumbers s n Never Never tt plan) b f)
+    (of-opening checkNumbers s n Never Never 0 (planNumber plan) (λ n. absurd (n refl)) (of-plan checkNumbers s n Never Never tt plan) tt b f)
     (λ t e. lines-refuse _ n (of-lines checkNumbers s n Never Never tt) b f t (linesOf plan) refl))
 
 pub expand-numbers : (b f : ℕ) (s plan : List ℕ) (all : ℕ)
@@ -351,7 +348,7 @@ expand-numbers b f s plan all =
     let Short = ShortSteps b f s plan all in
     numbered expandNumbers s n Short Never tt (expandPlan b f s plan all)
     (after-refuses _ (opened 0 (planNumber plan) b f s) _
-    (of-opening expandNumbers s n Short Never tt 0 (planNumber plan) (λ n. absurd (n refl)) (of-plan expandNumbers s n Short Never tt plan) b f)
+    (of-opening expandNumbers s n Short Never 0 (planNumber plan) (λ n. absurd (n refl)) (of-plan expandNumbers s n Short Never tt plan) tt b f)
     (λ t e. after-refuses _ (checkLines b f t (linesOf plan)) _
     (lines-refuse _ n (of-lines expandNumbers s n Short Never tt) b f t (linesOf plan) refl)
     (λ y d. room-refuses _ all 0 (stepBytes (expandAll f t (opersOf (linesOf plan))))

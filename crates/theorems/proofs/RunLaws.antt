@@ -4,19 +4,19 @@ use mathlib.Core.List.{List, [], _∷_, _++_, map}
 use lib.ListN.{length}
 use lib.Dec.{T, leb}
 use Rattle.rules.specs.Tables.{Table}
-use Rattle.rules.specs.Progression.{State, Step, act, mth, next, allAllowed, afterAll, height, prefix}
+use Rattle.rules.specs.Progression.{State, Step, act, mth, next, allAllowed, afterAll, height, prefix, resting}
 use Rattle.rules.specs.Operators.{company}
-use Rattle.theorems.specs.Runs.{resting, Run}
+use Rattle.theorems.specs.Runs.{Run}
 use Rattle.laws.proofs.TestLaws.{and-l, and-r, and-i}
 
--- The steps xs, after which nothing is due, are allowed; the state after them is holds the bound; and the run goes on from there.
+-- The steps xs, after which nothing is due, are allowed; the state after them keeps the bound; and the run goes on from there.
 pub record Passed (b f : ℕ) (t : Table) (s : State) (xs ys : List Step) : Type 0 where
   pub each : T (allAllowed t s xs)
   pub low : T (leb (height (afterAll t s xs)) b)
   pub rest : Run b f t 0 (afterAll t s xs) ys
 
 module _ (b f : ℕ) (t : Table) where
-  back : (ks : List ℕ) (s : State) (ys : List Step) → T (resting b (length ks) s) → Run b f t (length ks) s (map act ks ++ ys)
+  back : (ks : List ℕ) (s : State) (ys : List Step) → T (resting b (length ks) (s .stack)) → Run b f t (length ks) s (map act ks ++ ys)
       → Passed b f t s (map act ks) ys
   back [] s ys h r = record { each = tt; low = h; rest = r }
   back (k ∷ ks) s ys h r =
@@ -35,7 +35,7 @@ module _ (b f : ℕ) (t : Table) where
       record
       { each = search (and-i, r .0, q .each); low = q .low; rest = q .rest }
 
-  at-rest : (ks : List ℕ) (s : State) → T (leb (height (afterAll t s (map act ks))) b) → T (resting b (length ks) s)
+  at-rest : (ks : List ℕ) (s : State) → T (leb (height (afterAll t s (map act ks))) b) → T (resting b (length ks) (s .stack))
   at-rest [] s h = h
   at-rest (k ∷ ks) s h = tt
 

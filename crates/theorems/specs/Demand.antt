@@ -21,8 +21,9 @@ pub record Given (b f : ℕ) (s : List ℕ) (t : Table) : Type 0 where
   pub size : length s ≤ mostTableBytes
   pub reads : readOf (decode s) ≡ answer t
 
--- The bytes s are the table t, for an entry that takes no bound.
-pub record TableOf (s : List ℕ) (t : Table) : Type 0 where
+-- The same for an entry that takes no bound.
+pub record GivenForm (f : ℕ) (s : List ℕ) (t : Table) : Type 0 where
+  pub form : f ≤ 1
   pub size : length s ≤ mostTableBytes
   pub reads : readOf (decode s) ≡ answer t
 

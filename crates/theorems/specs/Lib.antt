@@ -6,3 +6,4 @@ pub mod Emitted
 pub mod StepLists
 pub mod Shapes
 pub mod Numbers
+pub mod Hints

@@ -1,5 +1,4 @@
 use native.Mathlib.Omega.{arith}
-use Rattle.rules.specs.Tables.{method}
 use Rattle.words.specs.Words.{tableOf}
 use Rattle.laws.proofs.TableLaws.{head-low}
 use Rattle.least.proofs.BoundLaws.{lowered, stayed}
@@ -35,7 +34,7 @@ same-length c = search needs
 returns : tie.Need-returns
 returns c =
     let s = c .before .before .before .before .before .before .before in
-    lowered (s .args .bounds .now) (method (tableOf (s .args .words .now)) (s .args .k)) _ _ (c .before .before .before .before .head-of .ensures) (c .before .before .method-bound .ensures)
+    lowered (s .args .form) (tableOf (s .args .words .now)) (s .args .bounds .now) (s .args .k) _ _ (c .before .before .before .before .head-of .ensures) (c .before .before .method-bound .ensures)
     (omega (arith, head-low (tableOf (s .args .words .now)) (s .pre .0 .valid) (s .args .k) (s .pre .1))) (c .if1 .taken)
 
 same-length-2 : tie.Need-same-length-2
@@ -44,7 +43,7 @@ same-length-2 c = search needs
 returns-2 : tie.Need-returns-2
 returns-2 c =
     let s = c .before .before .before .before .before .before .before in
-    stayed (s .args .bounds .now) (method (tableOf (s .args .words .now)) (s .args .k)) _ _ (c .before .before .before .before .head-of .ensures) (c .before .before .method-bound .ensures)
+    stayed (s .args .form) (tableOf (s .args .words .now)) (s .args .bounds .now) (s .args .k) _ _ (c .before .before .before .before .head-of .ensures) (c .before .before .method-bound .ensures)
     (omega (arith, head-low (tableOf (s .args .words .now)) (s .pre .0 .valid) (s .args .k) (s .pre .1))) (c .if1 .left)
 
 pub improve-one-spec : {M : Type 1} → statement M

@@ -25,7 +25,7 @@ settle-requires c κs =
     let s = c .before .before .before .before .before .before in
     let n = c .before .before .before .action-count in (
       s .pre,
-      ones-kept (tableOf (s .args .words .now)) mostTasks (n .result) _ (n .ensures)
+      ones-kept (s .args .form) (tableOf (s .args .words .now)) mostTasks (n .result) _ (n .ensures)
           (omega (arith, s .pre .valid .head .actions, s .pre .valid .head .tasks)) (c .before .before .put-ones .ensures),
     )
 
@@ -39,7 +39,7 @@ returns : tie.Need-returns
 returns c =
     let s = c .before .before .before .before .before .before .before .before .before .before in
     let v = c .before .before .before .settle .ensures in
-    c .start-bound .ensures ∙ sym (settled-least (tableOf (s .args .words .now)) _ (s .pre .valid) (v .0) (v .1))
+    c .start-bound .ensures ∙ sym (settled-least (s .args .form) (tableOf (s .args .words .now)) _ (s .pre .valid) (v .0) (v .1))
 
 pub least-spec : {M : Type 1} → statement M
 least-spec =

@@ -13,11 +13,11 @@ use Rattle.least.proofs.one_round.Statement.{statement}
 use Rattle.least.proofs.one_round.Tie as tie
 
 abbrev Inv-loop : tie.InvT-loop
-Inv-loop words bounds₀ n lowered₀ k₀ bounds lowered k =
-    (k ≤ n) × (bounds ≡ round (tableOf words) bounds₀ k) × (lowered ≡ not (settled (tableOf words) bounds₀ k))
+Inv-loop words form bounds₀ n lowered₀ k₀ bounds lowered k =
+    (k ≤ n) × (bounds ≡ round form (tableOf words) bounds₀ k) × (lowered ≡ not (settled form (tableOf words) bounds₀ k))
 
 abbrev μ-loop : tie.MeasureT-loop
-μ-loop words bounds₀ n lowered₀ k₀ bounds lowered k = n - k
+μ-loop words form bounds₀ n lowered₀ k₀ bounds lowered k = n - k
 
 method-count-requires : tie.Need-method-count-requires Inv-loop μ-loop
 method-count-requires c κs = search needs
@@ -31,7 +31,7 @@ improve-one-requires c κs =
     let s = c .before .before .before .before .before .before in (
       s .pre .0,
       omega (arith, c .before .before .before .method-count .ensures, c .before .loop-test .taken),
-      omega (arith, ap length (z .inv .1), round-length (tableOf (s .args .words .now)) (s .args .bounds .now) (z .k), s .pre .1 .size),
+      omega (arith, ap length (z .inv .1), round-length (s .args .form) (tableOf (s .args .words .now)) (s .args .bounds .now) (z .k), s .pre .1 .size),
     )
 
 add-k : tie.Need-add-k Inv-loop μ-loop
@@ -47,15 +47,15 @@ loop-again c =
     let t = tableOf (a .words .now) in
     let i = c .before .before .improve-one .ensures in (
       omega (arith, c .before .before .before .before .loop-test .taken),
-      round-more t (a .bounds .now) (z .bounds) (z .k) (z .inv .1) _ (i .0),
-      lowered-more t (a .bounds .now) (z .bounds) (z .k) (z .inv .1) _ _ (z .inv .2) (i .1),
+      round-more (a .form) t (a .bounds .now) (z .bounds) (z .k) (z .inv .1) _ (i .0),
+      lowered-more (a .form) t (a .bounds .now) (z .bounds) (z .k) (z .inv .1) _ _ (z .inv .2) (i .1),
     )
 
 same-length : tie.Need-same-length Inv-loop μ-loop
 same-length c =
     let z = c .before .loop in
     let a = c .before .before .before .before .before .args in
-    ap length (z .inv .1) ∙ round-length (tableOf (a .words .now)) (a .bounds .now) (z .k)
+    ap length (z .inv .1) ∙ round-length (a .form) (tableOf (a .words .now)) (a .bounds .now) (z .k)
 
 returns : tie.Need-returns Inv-loop μ-loop
 returns c =
@@ -63,7 +63,7 @@ returns c =
     let a = c .before .before .before .before .before .args in
     let t = tableOf (a .words .now) in
     let e : z .k ≡ methodCount t = omega (arith, c .before .before .method-count .ensures, c .loop-test .left) in
-    (z .inv .1 ∙ ap (round t (a .bounds .now)) e, z .inv .2 ∙ ap (λ (n : ℕ). not (settled t (a .bounds .now) n)) e)
+    (z .inv .1 ∙ ap (round (a .form) t (a .bounds .now)) e, z .inv .2 ∙ ap (λ (n : ℕ). not (settled (a .form) t (a .bounds .now) n)) e)
 
 pub one-round-spec : {M : Type 1} → statement M
 one-round-spec =

@@ -13,11 +13,11 @@ use Rattle.least.proofs.settle.Statement.{statement}
 use Rattle.least.proofs.settle.Tie as tie
 
 abbrev Inv-loop : tie.InvT-loop
-Inv-loop words bounds₀ again₀ bounds again =
-    Kept (tableOf words) bounds × (again ≡ false → T (settled (tableOf words) bounds (methodCount (tableOf words)))) × (length bounds ≡ length bounds₀)
+Inv-loop words form bounds₀ again₀ bounds again =
+    Kept form (tableOf words) bounds × (again ≡ false → T (settled form (tableOf words) bounds (methodCount (tableOf words)))) × (length bounds ≡ length bounds₀)
 
 abbrev μ-loop : tie.MeasureT-loop
-μ-loop words bounds₀ again₀ bounds again = total bounds + cond again 1 0
+μ-loop words form bounds₀ again₀ bounds again = total bounds + cond again 1 0
 
 loop-holds : tie.Need-loop-holds Inv-loop μ-loop
 loop-holds c = (c .before .before .pre .1, λ e. absurd (subst T e tt), refl)
@@ -30,7 +30,7 @@ loop-less c =
     let z = c .before .before .before .before .before .loop in
     let s = c .before .before .before .before .before .before .before .before in
     let r = c .before .before .one-round in
-    rw (c .before .before .before .before .loop-test .taken, r .ensures .0) (round-falls (tableOf (s .args .words .now)) (z .bounds) (s .pre .0 .valid) (z .inv .0) (r .result) (r .ensures .1))
+    rw (c .before .before .before .before .loop-test .taken, r .ensures .0) (round-falls (s .args .form) (tableOf (s .args .words .now)) (z .bounds) (s .pre .0 .valid) (z .inv .0) (r .result) (r .ensures .1))
 
 loop-again : tie.Need-loop-again Inv-loop μ-loop
 loop-again c =
@@ -38,9 +38,9 @@ loop-again c =
     let s = c .before .before .before .before .before .before .before .before in
     let t = tableOf (s .args .words .now) in
     let r = c .before .before .one-round in (
-      rw (r .ensures .0) (rounded t (s .pre .0 .valid) (z .bounds) (methodCount t) (omega arith) (z .inv .0)),
-      λ e. rw (r .ensures .0) (round-settles t (z .bounds) (sym e ∙ r .ensures .1)),
-      rw (r .ensures .0) (round-length t (z .bounds) (methodCount t) ∙ z .inv .2),
+      rw (r .ensures .0) (rounded (s .args .form) t (s .pre .0 .valid) (z .bounds) (methodCount t) (omega arith) (z .inv .0)),
+      λ e. rw (r .ensures .0) (round-settles (s .args .form) t (z .bounds) (sym e ∙ r .ensures .1)),
+      rw (r .ensures .0) (round-length (s .args .form) t (z .bounds) (methodCount t) ∙ z .inv .2),
     )
 
 same-length : tie.Need-same-length Inv-loop μ-loop

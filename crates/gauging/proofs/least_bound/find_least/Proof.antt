@@ -6,11 +6,11 @@ use borrow.Author.Needs.{needs}
 use Rattle.gauging.proofs.least_bound.find_least.Statement.{statement}
 use Rattle.gauging.proofs.least_bound.find_least.Tie as tie
 
-slice-aggregate-open-table : tie.Need-slice-aggregate-open-table
-slice-aggregate-open-table c = search needs
+slice-aggregate-open-formed : tie.Need-slice-aggregate-open-formed
+slice-aggregate-open-formed c = search needs
 
-open-table-requires : tie.Need-open-table-requires
-open-table-requires c κs = search needs
+open-formed-requires : tie.Need-open-formed-requires
+open-formed-requires c κs = search needs
 
 enum-known-number : tie.Need-enum-known-number
 enum-known-number c = search needs
@@ -22,22 +22,22 @@ slice-aggregate-least : tie.Need-slice-aggregate-least
 slice-aggregate-least c = search needs
 
 least-requires : tie.Need-least-requires
-least-requires c κs = c .before .before .before .before .open-table .ensures .known (c .before .enum-told .given .1) .held
+least-requires c κs = c .before .before .before .before .open-formed .ensures .known (c .before .enum-told .given .1) .held
 
 returns : tie.Need-returns
 unfolding findLeast
-returns c = sym (goes-on (c .before .before .before .before .open-table .ensures) (c .before .number .given .1) _)
+returns c = sym (goes-on (c .before .before .before .before .open-formed .ensures) (c .before .number .given .1) _)
 
 returns-2 : tie.Need-returns-2
 unfolding findLeast
-returns-2 c = ap answer (c .least .ensures) ∙ sym (goes-on (c .before .before .before .before .before .open-table .ensures) (c .before .before .enum-told .given .1) _)
+returns-2 c = ap answer (c .least .ensures) ∙ sym (goes-on (c .before .before .before .before .before .open-formed .ensures) (c .before .before .enum-told .given .1) _)
 
 pub find-least-spec : {M : Type 1} → statement M
 find-least-spec =
     tie.close
     (tie.spec
-    slice-aggregate-open-table
-    open-table-requires
+    slice-aggregate-open-formed
+    open-formed-requires
     enum-known-number
     enum-told
     slice-aggregate-least
