@@ -55,6 +55,7 @@ static void compare_leasts(const struct question *q, const struct lent *t, const
         compare_least(q->form, t);
     must("form 1's least bound is there and not above form 0's", least[0] == 0 || (least[1] > 0 && least[1] <= least[0]));
     must("form 0's least bound is at most 7 above form 1's", least[0] <= least[1] + 7);
+    must("form 0 has a least bound where form 1's leaves it room", least[1] == 0 || least[1] > 57 || least[0] > 0);
     must("an accepted plan's bound reaches the least", v->number || (least[q->form] > 0 && least[q->form] <= q->bound));
     tally.two_leasts += least[0] != least[1];
 }
@@ -491,6 +492,7 @@ static void account(void)
         account_for(e);
     }
     printf("tables with two least bounds %lu\n", (unsigned long)tally.two_leasts);
+    tally.failed += tally.two_leasts == 0;
     printf("accepted plans %lu; longest table read %lu bytes, longest plan accepted %lu bytes, most steps %lu\n",
            (unsigned long)tally.accepted, (unsigned long)tally.longest_table, (unsigned long)tally.longest_plan,
            (unsigned long)tally.most_steps);

@@ -48,6 +48,8 @@ static void compare_found(const struct question *q, const struct lent *t, const 
     same("found: check_operators", CHECK_CALL(operators), lines);
     same("found: check_steps", CHECK_CALL(steps), v.steps);
     must("found: accepted by the plain check, within the limit", v.number == 0 && v.operators == lines && lines <= q->limit);
+    uint64_t least = ildorzhen_least_bound(q->form, t->slice, t->length);
+    must("found: the bound reaches the least", least > 0 && least <= q->bound);
     raise_to(&tally.most_found, lines);
     raise_to(&tally.longest_found, length);
 }

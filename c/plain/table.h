@@ -34,7 +34,7 @@ struct table {
     struct method method[MOST_METHODS];
 };
 
-/* Refusals 1, 2, 3 and 4 in that order; an entry without a bound, a form or a plan gives 1, 0 or 0 for it. */
+/* Refusals 1, 2, 3 and 4 in that order; an entry without a bound or a plan gives 1 or 0 for it. */
 struct fault judge_sizes(uint64_t bound, uint64_t form, size_t table_length, size_t plan_length);
 
 /* Reads the whole table, or answers refusal 5 to 9 with its place. */

@@ -1,9 +1,12 @@
--- What the contracts of an entry's calls, as the source states them, allow on the same arguments: all results that they allow.
+-- What the contracts of calls, as the source states them, allow: all results of an entry's calls on the same arguments, of the least
+-- bound's in both forms, and of those beside a plan that is accepted or found.
 use Prim.Native.Nat.{ℕ}
 use mathlib.Core.Path.{_≡_, sym, ap, ap₂, subst, transport, _∙_}
+use mathlib.Core.Logic.{_⊎_}
 use mathlib.Core.List.{List}
 use lib.ListN.{length}
 use Rattle.basics.specs.Answers.{valueOf, itself}
+use Rattle.rules.specs.Reasons.{noRoom}
 use Rattle.rules.specs.Refusals.{findLeast}
 use Rattle.theorems.specs.Hints.{Compared, Reaches}
 use Rattle.theorems.proofs.HintLaws.{hints-compared}
@@ -125,11 +128,11 @@ pub search-reached : (κs κs′ : _) (a c : _) (m n : _) (s u : _)
     → search-number.Post κs′ c n u
     → a .0 ≡ c .1 .0
     → a .1 .0 .now ≡ c .1 .1 .1 .1 .0 .now
-    → n ≡ 0
+    → (n ≡ 0) ⊎ (n ≡ noRoom)
     → Reaches (c .0) m
-search-reached κs κs′ a c m n s u h k form table zero =
+search-reached κs κs′ a c m n s u h k form table found =
     let e = h ∙ ap₂ (λ (f : ℕ) (x : List ℕ). valueOf itself (findLeast f x)) form table in
-    subst (Reaches (c .0)) (sym e) (search-reaches _ _ _ _ _ _ (sym k ∙ zero))
+    subst (Reaches (c .0)) (sym e) (search-reaches _ _ _ _ _ _ (subst (λ x. (x ≡ 0) ⊎ (x ≡ noRoom)) k found))
 
 pub search-writes : (κs : _) (a : _) (m : _) (u : _) → search-write.Post κs a m u
     → SearchWrites (a .0) (a .1 .0) (a .1 .1 .0) (a .1 .1 .1 .0) (a .1 .1 .1 .1 .0 .now) (a .1 .1 .1 .1 .1 .0 .now) (u .1 .1 .1 .1 .1 .0 .now) m

@@ -1,7 +1,7 @@
 -- A turn of each loop over bounds.
 use Prim.Native.Nat.{ℕ, zero, suc, _+_, _-_, _≤_, _<_, max}
 use mathlib.Core.Path.{_≡_, refl, sym, ap, ap₂, _∙_}
-use mathlib.Core.Bool.{Bool, true, false, not, _||_}
+use mathlib.Core.Bool.{Bool, true, false, not, _||_, or-true, or-false}
 use mathlib.Core.List.{List, [], _∷_}
 use native.Mathlib.Omega.{arith}
 use native.Mathlib.Numerals.{add-one}
@@ -53,15 +53,15 @@ module _ (f : ℕ) (t : Table) (v : List ℕ) (k head next : ℕ) (h : head ≡ 
   old : getD v head 0 ≡ boundOf v (method t k .head)
   old = bound-in v head l ∙ ap (boundOf v) h
 
-  pub lowered : next < getD v head 0 → (set v head next ≡ improve f t v k) × (true ≡ lowers f t v k)
-  lowered i =
+  pub lowered : (b : Bool) → next < getD v head 0 → (set v head next ≡ improve f t v k) × (true ≡ (b || lowers f t v k))
+  lowered b i =
       let q : lowers f t v k ≡ true = lt-ltb (methodBound f t v k) (boundOf v (method t k .head)) (omega (arith, old)) in
-      (rw (q, h, n), sym q)
+      (rw (q, h, n), rw q (sym (or-true b)))
 
-  pub stayed : getD v head 0 ≤ next → (v ≡ improve f t v k) × (false ≡ lowers f t v k)
-  stayed i =
+  pub stayed : (b : Bool) → getD v head 0 ≤ next → (v ≡ improve f t v k) × (b ≡ (b || lowers f t v k))
+  stayed b i =
       let q : lowers f t v k ≡ false = le-ltb (methodBound f t v k) (boundOf v (method t k .head)) (omega (arith, old)) in
-      (rw q, sym q)
+      (rw q, rw q (sym (or-false b)))
 
 -- The starting task's bound, or 0.
 module _ (t : Table) (v : List ℕ) (start : ℕ) (e : start ≡ startTask t) (l : start < length v) where
@@ -79,9 +79,9 @@ module _ (f : ℕ) (t : Table) (v w : List ℕ) (k : ℕ) (e : w ≡ round f t v
   pub round-more : (x : List ℕ) → x ≡ improve f t w k → x ≡ round f t v (k + 1)
   round-more x i = i ∙ ap (λ (u : List ℕ). improve f t u k) e ∙ ap (round f t v) (sym (add-one k))
 
-  pub lowered-more : (b r : Bool) → b ≡ not (settled f t v k) → r ≡ lowers f t w k → (b || r) ≡ not (settled f t v (k + 1))
+  pub lowered-more : (b r : Bool) → b ≡ not (settled f t v k) → r ≡ (b || lowers f t w k) → r ≡ not (settled f t v (k + 1))
   lowered-more b r d i =
-      ap₂ _||_ d (i ∙ ap (λ (u : List ℕ). lowers f t u k) e) ∙ settled-more f t v k
+      i ∙ ap₂ _||_ d (ap (λ (u : List ℕ). lowers f t u k) e) ∙ settled-more f t v k
       ∙ ap (λ (n : ℕ). not (settled f t v n)) (sym (add-one k))
 
 -- One more bound is 1.

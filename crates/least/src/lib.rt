@@ -1,6 +1,6 @@
 // The least bound of a table in words, for a form: found in rounds over its methods.
 ghost use mathlib.Core.Path.{_≡_};
-ghost use mathlib.Core.Bool.{not};
+ghost use mathlib.Core.Bool.{not, _||_};
 ghost use Prim.Native.Nat.{_<_, _≤_, max};
 ghost use lib.ListN.{length};
 ghost use lib.Dec.{T};
@@ -24,7 +24,7 @@ fn higher(a: u64, b: u64) -> u64
     if a < b { b } else { a }
 }
 
-// How many actions method k takes with it. `operators` joins them as it counts; here that would cost a table of many rounds.
+// How many actions method k takes with it. `operators` joins them as it counts, which every round here would pay for.
 fn prefix_length(words: &[u64], form: u64, k: usize) -> usize
     requires { ⌜ Held (now words) × (k < methodCount (tableOf (now words))) ⌝ }
     ensures { λ r. ⌜ r ≡ length (prefix form (tableOf (now (words .entry))) k) ⌝ }
@@ -63,11 +63,11 @@ fn method_bound(words: &[u64], form: u64, k: usize, bounds: &[u8]) -> u64
     best
 }
 
-// Lowers the bound of method k's head where the method does.
-fn improve_one(words: &[u64], form: u64, k: usize, bounds: &mut [u8]) -> bool
+// Lowers the bound of method k's head where the method does; whether it or one before it did.
+fn improve_one(words: &[u64], form: u64, k: usize, bounds: &mut [u8], lowered: bool) -> bool
     requires { ⌜ Held (now words) × (k < methodCount (tableOf (now words))) × (taskCount (tableOf (now words)) ≤ length (now bounds)) ⌝ }
     ensures { λ r. ⌜ now (bounds .exit) ≡ improve form (tableOf (now (words .entry))) (now (bounds .entry)) k ⌝ }
-    ensures { λ r. ⌜ r ≡ lowers form (tableOf (now (words .entry))) (now (bounds .entry)) k ⌝ }
+    ensures { λ r. ⌜ r ≡ (lowered || lowers form (tableOf (now (words .entry))) (now (bounds .entry)) k) ⌝ }
 {
     let head = words::head_of(words, k);
     let next = method_bound(words, form, k, bounds);
@@ -76,7 +76,7 @@ fn improve_one(words: &[u64], form: u64, k: usize, bounds: &mut [u8]) -> bool
         bounds[head] = next as u8;
         return true;
     }
-    false
+    lowered
 }
 
 // Each method in turn; whether one of them lowered a bound.
@@ -89,8 +89,7 @@ fn one_round(words: &[u64], form: u64, bounds: &mut [u8]) -> bool
     let mut lowered = false;
     let mut k = 0;
     while k < n {
-        let more = improve_one(words, form, k, bounds);
-        lowered = lowered | more;
+        lowered = improve_one(words, form, k, bounds, lowered);
         k += 1;
     }
     lowered

@@ -53,6 +53,7 @@ pub fn open_formed(form: u64, early: u64, table: &[u8], late: u64, words: &mut [
     open_table(table, late, words)
 }
 
+// The table's length, the second check, the table.
 fn open_table(table: &[u8], late: u64, words: &mut [u64]) -> Opening
     requires { ⌜ tableWords ≤ length (now words) ⌝ }
     ensures { λ r. ⌜ Opens (tableRead late (now (table .entry))) (Read late (now (words .exit))) r (now (words .exit)) ⌝ }

@@ -1,18 +1,21 @@
 -- What the definitions' numbers say.
 use Prim.Native.Nat.{ℕ, _+_, _≤_}
-use mathlib.Core.Path.{_≡_, refl, ap, _∙_}
+use mathlib.Core.Path.{_≡_, refl, ap, subst, _∙_}
+use mathlib.Core.Logic.{_⊎_, inl, inr}
 use mathlib.Core.List.{List, _++_}
 use native.Mathlib.Omega.{arith}
 use lib.ListN.{length, drop}
 use Rattle.basics.specs.Answers.{Answer, answer, refusal, numberOf, placeOf, valueOf, itself}
+use Rattle.rules.specs.Reasons.{noRoom}
 use Rattle.rules.specs.Checks.{costOf, operatorsIn, stepsIn}
 use Rattle.rules.specs.Refusals.{countSections, oneSection, checkPlan, expandPlan, findLeast, Sought, planText, planBytes, searchPlan, textFound, written}
 use Rattle.theorems.proofs.Demand3.{solves, expansion, expansion-length}
 use Rattle.theorems.proofs.RefusalNumbers.{handed, no-value, count-numbers, section-numbers, check-numbers, expand-numbers, least-numbers}
 use Rattle.theorems.proofs.Completion.{counted, count-zero, section-is, section-zero, least-zero, least-least, completes-accepted, check-zero, expand-zero}
+use Rattle.theorems.specs.Numbers.{PlaceOf}
 use Rattle.theorems.specs.Hints.{Reaches}
 use Rattle.theorems.proofs.HintLaws.{completes-reaches, accepted-reaches}
-use Rattle.sought.specs.Outcomes.{Finds}
+use Rattle.sought.specs.Outcomes.{Finds, FindsNone, ShortPlan}
 use Rattle.sought.proofs.SearchAnswers.{search-answer, search-says}
 use Rattle.results.specs.Calls.{SectionsCalls, SectionCalls, LeastCalls, CheckCalls, ExpandCalls, SearchWrites}
 
@@ -92,11 +95,18 @@ module _ (b f : ℕ) (s plan : List ℕ) where
 pub check-reaches : (b f : ℕ) (s plan : List ℕ) → numberOf (checkPlan b f s plan) ≡ 0 → Reaches b (valueOf itself (findLeast f s))
 check-reaches b f s plan e = completes-reaches b f s plan (check-zero b f s plan .0 e)
 
-pub search-reaches : (b f l budget : ℕ) (s : List ℕ) (room : ℕ) → numberOf (searchPlan b f l budget s room) ≡ 0 → Reaches b (valueOf itself (findLeast f s))
-search-reaches b f l budget s room e =
-    let a = search-says b f l budget s room in
-    let q = a .zero .0 e in
-    accepted-reaches b f s (planText (q .0)) _ (a .accepted (q .0) (q .1))
+-- It is found where the search has a result, and also where only the room for its text is too little.
+module _ (b f l budget : ℕ) (s : List ℕ) (room : ℕ) where
+  finds-reaches : (y : Sought) → Finds b f l budget s y → Reaches b (valueOf itself (findLeast f s))
+  finds-reaches y q = accepted-reaches b f s (planText y) _ (search-says b f l budget s room .accepted y q)
+
+  pub search-reaches : let n = numberOf (searchPlan b f l budget s room) in (n ≡ 0) ⊎ (n ≡ noRoom) → Reaches b (valueOf itself (findLeast f s))
+  search-reaches (inl e) = let q = search-says b f l budget s room .zero .0 e in finds-reaches (q .0) (q .1)
+  search-reaches (inr e) =
+      let place = placeOf (searchPlan b f l budget s room) in
+      let h = search-says b f l budget s room .refusal .refused (λ z. omega (arith, e, z)) .placed in
+      let q : ShortPlan b f l budget s room place = subst (λ (n : ℕ). PlaceOf (length s) 0 (ShortPlan b f l budget s room) (FindsNone b f l budget s) n place) e h in
+      finds-reaches (q .plan) (q .finds)
 
 module _ (b f l budget : ℕ) (s old : List ℕ) where
   pub search-wrote :

@@ -39,9 +39,8 @@ pub examples :
     × (checkPlan 1 0 tableU (bytes "(m0 1)\n") ≡ refusal 12 1)
     × (checkPlan 1 1 tableU (bytes "(m0 1)\n") ≡ accepted 6 1 3)
     × (checkPlan 2 0 tableU (bytes "(m0 1)\n(a0 2)\n(a0 1)\n") ≡ accepted 6 3 3)
-    × (findLeast 0 tableU ≡ answer 2)
-unfolding many groupsBefore groupsValue sound numberAt inRange ranged header readAction readMethod closed decode without joinOne joinFrom joinOf joined positions linesOf checkLines stepBytes planNumber tableRead formRead opened checkPlan expandPlan leastBound findLeast
-examples = (refl, refl, refl, refl, refl, refl, refl, refl, refl, refl, refl, refl, refl, refl)
+unfolding many groupsBefore groupsValue sound numberAt inRange ranged header readAction readMethod closed decode without joinOne joinFrom joinOf joined positions linesOf checkLines stepBytes planNumber tableRead formRead opened checkPlan expandPlan
+examples = (refl, refl, refl, refl, refl, refl, refl, refl, refl, refl, refl, refl, refl)
 
 -- T with a method of eight actions: no two forms lie further apart.
 abbrev tableV : List ℕ
@@ -51,7 +50,7 @@ tableV = 1 ∷ 1 ∷ 1 ∷ 1 ∷ 1 ∷ 0 ∷ 1 ∷ 0 ∷ 1 ∷ 0 ∷ 3 ∷ 1 ∷
 abbrev tableW : List ℕ
 tableW = 1 ∷ 1 ∷ 1 ∷ 1 ∷ 1 ∷ 1 ∷ 0 ∷ 1 ∷ 0 ∷ 1 ∷ 3 ∷ 1 ∷ 2 ∷ 0 ∷ 0 ∷ []
 
--- "U gives 2 and 1". Form 2 is refused before the table is looked at.
+-- "Least bound of U: 2", and "U gives 2 and 1". Form 2 is refused before the table is looked at.
 pub hints :
     (findLeast 0 tableU ≡ answer 2)
     × (findLeast 1 tableU ≡ answer 1)

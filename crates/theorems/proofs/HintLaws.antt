@@ -10,11 +10,11 @@ use Rattle.rules.specs.Checks.{Tally}
 use Rattle.rules.specs.Refusals.{tableRead, checkPlan, findLeast}
 use Rattle.laws.specs.Valid.{Valid}
 use Rattle.laws.proofs.RefusalLaws.{form-is, read-valid}
-use Rattle.theorems.specs.Demand.{Completes, stepsOfPlan}
-use Rattle.theorems.specs.Hints.{Compared, Reaches}
+use Rattle.theorems.specs.Demand.{GivenForm, Completes, stepsOfPlan}
+use Rattle.theorems.specs.Hints.{SameStacks, Compared, Reaches}
 use Rattle.theorems.proofs.Demand3.{form-given, in-form}
 use Rattle.theorems.proofs.Completion.{least-is, accepted-completes}
-use Rattle.theorems.proofs.LeastForms.{compared, run-reaches}
+use Rattle.theorems.proofs.LeastForms.{compared, run-reaches, facts-ignored}
 
 -- Both forms' of any bytes: none of either is handed back where the table is refused.
 pub hints-compared : (s : List ℕ) → Compared (valueOf itself (findLeast 0 s)) (valueOf itself (findLeast 1 s))
@@ -34,6 +34,10 @@ hints-compared s =
     go (answer t) e = compared 1 t (good t e)
     go (refusal number place) e =
         record { there = λ h. h; below = λ h. omega arith; near = λ h k. omega arith; back = λ h l. h }
+
+-- Tables that differ in facts alone, or in what their actions need, change and cost, have the same.
+pub facts-unseen : (f : ℕ) (s s′ : List ℕ) (t u : Table) → GivenForm f s t → GivenForm f s′ u → SameStacks t u → findLeast f s ≡ findLeast f s′
+facts-unseen f s s′ t u g h e = least-is f s t g ∙ ap answer (facts-ignored f t u e) ∙ sym (least-is f s′ u h)
 
 module _ (b f : ℕ) (s plan : List ℕ) where
   pub completes-reaches : Completes b f s plan → Reaches b (valueOf itself (findLeast f s))

@@ -1,6 +1,6 @@
--- The least bounds of the forms beside each other and beside complete runs, and what they do not depend on.
+-- The least bounds of the forms beside each other and beside complete runs, and of tables that differ in facts.
 use Prim.Native.Nat.{ℕ, zero, suc, _+_, _≤_, _<_}
-use mathlib.Core.Path.{_≡_, refl, ap, ap₂, _∙_}
+use mathlib.Core.Path.{_≡_, refl, sym, ap, ap₂, _∙_}
 use mathlib.Core.Logic.{_↔_}
 use mathlib.Core.Bool.{Bool, _&&_, not, cond}
 use mathlib.Core.List.{List, [], _∷_, _++_}
@@ -18,7 +18,7 @@ use Rattle.laws.proofs.TestLaws.{and-l, and-r}
 use Rattle.laws.proofs.RestLaws.{low-rests, prefix-owed, none-due}
 use Rattle.laws.proofs.RoundLaws.{computed}
 use Rattle.theorems.specs.Runs.{Run, CompleteRun}
-use Rattle.theorems.specs.Hints.{bare, Compared, Reaches}
+use Rattle.theorems.specs.Hints.{SameStacks, Compared, Reaches}
 
 -- In form 0 nothing is ever due and every subtask stays: the height counts at every point, as document 01 had it.
 pub every-point : (b : ℕ) (t : Table) (x : Step) (st : List ℕ) → resting b (due 0 t 0 x) st ≡ leb (length st) b
@@ -121,7 +121,23 @@ module _ (b f : ℕ) (t : Table) where
       let q = computed f t valid .smallest b h (r .0, (xs, run-clears xs 0 (begin t) (r .1))) in
       record { there = q .0; enough = q .1 }
 
--- "Facts stay ignored": the least bound is that of the table without them.
+-- What a stack sees of a table.
+abbrev bare : Table → Table
+bare t =
+    record {
+      head = record {
+        facts = 0;
+        actions = t .head .actions;
+        abstracts = t .head .abstracts;
+        methods = t .head .methods;
+        start = t .head .start;
+        init = 0;
+        goal = 0;
+      };
+      actions = [];
+      methods = t .methods;
+    }
+
 module _ (f : ℕ) (t : Table) where
   lowers-bare : (v : List ℕ) (k : ℕ) → lowers f t v k ≡ lowers f (bare t) v k
   lowers-bare v k = go f
@@ -151,6 +167,26 @@ module _ (f : ℕ) (t : Table) where
       let m = methodCount t in
       ap₂ (λ (x : Bool) (w : List ℕ). cond x v w) (settled-bare v m) (ap (rounds f t n) (round-bare v m) ∙ rounds-bare n (round f (bare t) v m))
 
-  pub facts-ignored : leastBound f t ≡ leastBound f (bare t)
+  least-bare : leastBound f t ≡ leastBound f (bare t)
   unfolding leastBound
-  facts-ignored = ap (λ (v : List ℕ). upToMost (boundOf v (startTask t))) (rounds-bare (suc (total (first t))) (first t))
+  least-bare = ap (λ (v : List ℕ). upToMost (boundOf v (startTask t))) (rounds-bare (suc (total (first t))) (first t))
+
+same-bare : (t u : Table) → SameStacks t u → bare t ≡ bare u
+same-bare t u e =
+    λ i. record {
+      head = record {
+        facts = 0;
+        actions = e .actions i;
+        abstracts = e .abstracts i;
+        methods = e .count i;
+        start = e .start i;
+        init = 0;
+        goal = 0;
+      };
+      actions = [];
+      methods = e .methods i;
+    }
+
+-- "Facts stay ignored": the least bound is that of every table with the same tasks and methods.
+pub facts-ignored : (f : ℕ) (t u : Table) → SameStacks t u → leastBound f t ≡ leastBound f u
+facts-ignored f t u e = least-bare f t ∙ ap (leastBound f) (same-bare t u e) ∙ sym (least-bare f u)

@@ -1,24 +1,15 @@
--- What the least bounds of a table are beside: the table's facts, each other, and a bound with which a plan was accepted.
+-- Least bounds compared: of tables that differ in facts, of the two forms, and with the bound of a plan that is accepted.
 use Prim.Native.Nat.{ℕ, _+_, _≤_}
-use mathlib.Core.List.{[]}
+use mathlib.Core.Path.{_≡_}
 use Rattle.rules.specs.Tables.{Table}
 
--- The table without its facts: none is given or wanted, and no action needs or changes any.
-abbrev pub bare : Table → Table
-bare t =
-    record {
-      head = record {
-        facts = 0;
-        actions = t .head .actions;
-        abstracts = t .head .abstracts;
-        methods = t .head .methods;
-        start = t .head .start;
-        init = 0;
-        goal = 0;
-      };
-      actions = [];
-      methods = t .methods;
-    }
+-- The tables have the same tasks, methods and starting task. Their facts may differ, and what an action needs, changes and costs.
+pub record SameStacks (t u : Table) : Type 0 where
+  pub actions : t .head .actions ≡ u .head .actions
+  pub abstracts : t .head .abstracts ≡ u .head .abstracts
+  pub count : t .head .methods ≡ u .head .methods
+  pub start : t .head .start ≡ u .head .start
+  pub methods : t .methods ≡ u .methods
 
 -- Where form 0 has one form 1 has one, never above it; where both have, form 0's is at most 7 more; and form 0 has one where that
 -- keeps within 64.

@@ -35,7 +35,7 @@ returns : tie.Need-returns
 returns c =
     let s = c .before .before .before .before .before .before .before in
     lowered (s .args .form) (tableOf (s .args .words .now)) (s .args .bounds .now) (s .args .k) _ _ (c .before .before .before .before .head-of .ensures) (c .before .before .method-bound .ensures)
-    (omega (arith, head-low (tableOf (s .args .words .now)) (s .pre .0 .valid) (s .args .k) (s .pre .1))) (c .if1 .taken)
+    (omega (arith, head-low (tableOf (s .args .words .now)) (s .pre .0 .valid) (s .args .k) (s .pre .1))) (s .args .lowered) (c .if1 .taken)
 
 same-length-2 : tie.Need-same-length-2
 same-length-2 c = search needs
@@ -44,7 +44,7 @@ returns-2 : tie.Need-returns-2
 returns-2 c =
     let s = c .before .before .before .before .before .before .before in
     stayed (s .args .form) (tableOf (s .args .words .now)) (s .args .bounds .now) (s .args .k) _ _ (c .before .before .before .before .head-of .ensures) (c .before .before .method-bound .ensures)
-    (omega (arith, head-low (tableOf (s .args .words .now)) (s .pre .0 .valid) (s .args .k) (s .pre .1))) (c .if1 .left)
+    (omega (arith, head-low (tableOf (s .args .words .now)) (s .pre .0 .valid) (s .args .k) (s .pre .1))) (s .args .lowered) (c .if1 .left)
 
 pub improve-one-spec : {M : Type 1} → statement M
 improve-one-spec =
