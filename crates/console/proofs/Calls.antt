@@ -1,7 +1,7 @@
 -- What the contracts of calls, as the source states them, allow: all results of an entry's calls on the same arguments, of the least
 -- bound's in both forms, and of those beside a plan that is accepted or found.
 use Prim.Native.Nat.{ℕ}
-use mathlib.Core.Path.{_≡_, sym, ap, ap₂, subst, transport, _∙_}
+use mathlib.Core.Path.{_≡_, refl, sym, ap₂, subst, transport, _∙_}
 use mathlib.Core.Logic.{_⊎_}
 use mathlib.Core.List.{List}
 use lib.ListN.{length}
@@ -65,6 +65,9 @@ pub least-calls : (κs : _) (a : _) (n p m : _) (s1 s2 s3 : _)
 least-calls κs a n p m s1 s2 s3 h1 h2 h3 =
     transport (λ i. LeastCalls (a .0) (a .1 .0 .now) (sym h1 i) (sym h2 i) (sym h3 i)) (least-says (a .0) (a .1 .0 .now))
 
+same-least : {f f′ : ℕ} {s s′ : List ℕ} → f ≡ f′ → s ≡ s′ → valueOf itself (findLeast f s) ≡ valueOf itself (findLeast f′ s′)
+same-least = ap₂ (λ (f : ℕ) (s : List ℕ). valueOf itself (findLeast f s))
+
 -- The least bounds of both forms on one table.
 pub least-compared : (κs κs′ : _) (a a′ : _) (m m′ : _) (s s′ : _)
     → least-bound.Post κs a m s
@@ -74,8 +77,8 @@ pub least-compared : (κs κs′ : _) (a a′ : _) (m m′ : _) (s s′ : _)
     → a .1 .0 .now ≡ a′ .1 .0 .now
     → Compared m m′
 least-compared κs κs′ a a′ m m′ s s′ h h′ plain prefixed table =
-    let e = h ∙ ap (λ (f : ℕ). valueOf itself (findLeast f (a .1 .0 .now))) plain in
-    let e′ = h′ ∙ ap₂ (λ (f : ℕ) (x : List ℕ). valueOf itself (findLeast f x)) prefixed (sym table) in
+    let e = h ∙ same-least plain refl in
+    let e′ = h′ ∙ same-least prefixed (sym table) in
     transport (λ i. Compared (sym e i) (sym e′ i)) (hints-compared (a .1 .0 .now))
 
 pub check-calls : (κs : _) (a : _) (n p c o k : _) (s1 s2 s3 s4 s5 : _)
@@ -120,8 +123,7 @@ pub check-reached : (κs κs′ : _) (a c : _) (m n : _) (s u : _)
     → n ≡ 0
     → Reaches (c .0) m
 check-reached κs κs′ a c m n s u h k form table zero =
-    let e = h ∙ ap₂ (λ (f : ℕ) (x : List ℕ). valueOf itself (findLeast f x)) form table in
-    subst (Reaches (c .0)) (sym e) (check-reaches _ _ _ _ (sym k ∙ zero))
+    subst (Reaches (c .0)) (sym (h ∙ same-least form table)) (check-reaches _ _ _ _ (sym k ∙ zero))
 
 pub search-reached : (κs κs′ : _) (a c : _) (m n : _) (s u : _)
     → least-bound.Post κs a m s
@@ -131,8 +133,7 @@ pub search-reached : (κs κs′ : _) (a c : _) (m n : _) (s u : _)
     → (n ≡ 0) ⊎ (n ≡ noRoom)
     → Reaches (c .0) m
 search-reached κs κs′ a c m n s u h k form table found =
-    let e = h ∙ ap₂ (λ (f : ℕ) (x : List ℕ). valueOf itself (findLeast f x)) form table in
-    subst (Reaches (c .0)) (sym e) (search-reaches _ _ _ _ _ _ (subst (λ x. (x ≡ 0) ⊎ (x ≡ noRoom)) k found))
+    subst (Reaches (c .0)) (sym (h ∙ same-least form table)) (search-reaches _ _ _ _ _ _ (subst (λ x. (x ≡ 0) ⊎ (x ≡ noRoom)) k found))
 
 pub search-writes : (κs : _) (a : _) (m : _) (u : _) → search-write.Post κs a m u
     → SearchWrites (a .0) (a .1 .0) (a .1 .1 .0) (a .1 .1 .1 .0) (a .1 .1 .1 .1 .0 .now) (a .1 .1 .1 .1 .1 .0 .now) (u .1 .1 .1 .1 .1 .0 .now) m

@@ -55,18 +55,6 @@ module _ (f : ℕ) (t : Table) (valid : Valid t) (v : List ℕ) (closed : Closed
       (omega (arith, closed .mths k (ltb→lt _ _ m), g, rise-left v (stays f t k) st, rise-right v (stays f t k) st))
 
 module _ (f : ℕ) (t : Table) where
-  -- A method's step above another stack, before the steps that come after it.
-  method-above : (a b : ℕ) (ts : List ℕ) (zs : List Step) → a + length ts ≤ b → (k : ℕ) (ys : List Step) (c : ℕ) (st : List ℕ) → Clears a f t 0 (c ∷ st) (mth k ∷ ys)
-      → Clears b f t (length (prefix f t k)) ((method t k .subs ++ st) ++ ts) (ys ++ zs)
-      → Clears b f t 0 (c ∷ st ++ ts) (mth k ∷ ys ++ zs)
-  method-above a b ts zs l k ys c st r q =
-      let n = length (prefix f t k) in
-      let e = append-assoc (method t k .subs) st ts in (
-        r .0,
-        subst (λ (xs : List ℕ). T (resting b n xs)) e (rests-above a b n (method t k .subs ++ st) ts l (r .1)),
-        subst (λ (xs : List ℕ). Clears b f t n xs (ys ++ zs)) e q,
-      )
-
   -- A stack is cleared above another.
   above : (a b : ℕ) (ts : List ℕ) (zs : List Step) → a + length ts ≤ b → Clears b f t 0 ts zs
       → (ys : List Step) (o : ℕ) (st : List ℕ) → Owed (actionCount t) o st → Clears a f t o st ys → Clears b f t o (st ++ ts) (ys ++ zs)
@@ -79,8 +67,14 @@ module _ (f : ℕ) (t : Table) where
       (r .0, rests-above a b zero st ts l (r .1), above a b ts zs l z ys zero st tt (r .2))
   above a b ts zs l z (act k ∷ ys) (suc o) (c ∷ st) w r =
       (r .0, rests-above a b o st ts l (r .1), above a b ts zs l z ys o st (w .1) (r .2))
-  above a b ts zs l z (mth k ∷ ys) zero (c ∷ st) w r = method-above a b ts zs l k ys c st r (above a b ts zs l z ys _ _ (prefix-owed f t k st) (r .2))
-  above a b ts zs l z (mth k ∷ ys) (suc o) (c ∷ st) w r = method-above a b ts zs l k ys c st r (above a b ts zs l z ys _ _ (prefix-owed f t k st) (r .2))
+  above a b ts zs l z (mth k ∷ ys) o (c ∷ st) w r =
+      let n = length (prefix f t k) in
+      let q = above a b ts zs l z ys n (method t k .subs ++ st) (prefix-owed f t k st) (r .2) in
+      let e = append-assoc (method t k .subs) st ts in (
+        r .0,
+        subst (λ (xs : List ℕ). T (resting b n xs)) e (rests-above a b n (method t k .subs ++ st) ts l (r .1)),
+        subst (λ (xs : List ℕ). Clears b f t n xs (ys ++ zs)) e q,
+      )
 
   pub clear-all : (v : List ℕ) → Sound f t v → (b : ℕ) → b ≤ mostBound → (ts : List ℕ) → rise v ts ≤ b → (xs : List Step) × Clears b f t 0 ts xs
   unfolding Sound

@@ -16,6 +16,11 @@ pub low-rests : (b o : ℕ) (st : List ℕ) → length st ≤ b → T (resting b
 low-rests b zero st l = le→leb (length st) b l
 low-rests b (suc o) st l = tt
 
+-- A greater bound is kept too.
+pub rests-more : (b b′ o : ℕ) (st : List ℕ) → b ≤ b′ → T (resting b o st) → T (resting b′ o st)
+rests-more b b′ zero st l h = le→leb (length st) b′ (omega (arith, leb→le (length st) b h))
+rests-more b b′ (suc o) st l h = tt
+
 -- On top of other tasks, with so much more room.
 pub rests-above : (a b o : ℕ) (st ts : List ℕ) → a + length ts ≤ b → T (resting a o st) → T (resting b o (st ++ ts))
 rests-above a b zero st ts l h = le→leb (length (st ++ ts)) b (omega (arith, leb→le (length st) a h, length-append st ts))

@@ -11,7 +11,7 @@ use lib.Dec.{T, ltb, eqb, ltb→lt, lt→ltb, nltb→le, eqb-refl}
 use Rattle.rules.specs.Limits.{mostBound}
 use Rattle.rules.specs.Tables.{Table, actionCount, taskCount, methodCount, startTask, method}
 use Rattle.rules.specs.Progression.{Step, act, mth, prefix, stays, resting}
-use Rattle.rules.specs.LeastBounds.{Clears, Least, boundOf, rise, methodBound, lowers, improve, round, settled, rounds, total, first, upToMost, leastBound}
+use Rattle.rules.specs.LeastBounds.{Clears, Least, unknown, boundOf, rise, methodBound, lowers, improve, round, settled, rounds, total, first, upToMost, leastBound}
 use Rattle.laws.specs.Valid.{Valid}
 use Rattle.laws.specs.Bounds.{Sound, Kept}
 use Rattle.laws.proofs.TestLaws.{and-l, and-r, and-i, not-and-not}
@@ -25,8 +25,8 @@ at-set : (P : ℕ → ℕ → Type 0) (v : List ℕ) (h n : ℕ) → h < length 
 at-set P v h n l p q c = go (ℕ-discrete c h)
   where
     go : Dec (c ≡ h) → P c (boundOf (set v h n) c)
-    go (yes e) = rw (e, getD-set-same v h n 65 l) p
-    go (no e) = rw (getD-set-other v h c n 65 e) (q c)
+    go (yes e) = rw (e, getD-set-same v h n unknown l) p
+    go (no e) = rw (getD-set-other v h c n unknown e) (q c)
 
 rise-length : (v ts : List ℕ) → ((c : ℕ) → 1 ≤ boundOf v c) → length ts ≤ rise v ts
 rise-length v [] h = omega arith
@@ -153,9 +153,9 @@ module _ (f : ℕ) (t : Table) (valid : Valid t) where
       go true e g = record { kept = q; done = rw e tt }
       go false e g = g (rw e tt)
 
--- The first bounds: 1 for an action, 65 for any other.
+-- The first bounds: 1 for an action, none known for any other.
 pub begins : (f : ℕ) (t : Table) (v : List ℕ) → taskCount t ≤ length v → ((c : ℕ) → c < actionCount t → boundOf v c ≡ 1)
-    → ((c : ℕ) → actionCount t ≤ c → boundOf v c ≡ 65)
+    → ((c : ℕ) → actionCount t ≤ c → boundOf v c ≡ unknown)
     → Kept f t v
 unfolding Sound
 begins f t v l low high =
@@ -168,19 +168,19 @@ begins f t v l low high =
           (λ c h k. absurd (omega arith));
     }
   where
-    cases : (P : ℕ → ℕ → Type 0) → ((c : ℕ) → c < actionCount t → P c 1) → ((c : ℕ) → actionCount t ≤ c → P c 65) → (c : ℕ) → P c (boundOf v c)
+    cases : (P : ℕ → ℕ → Type 0) → ((c : ℕ) → c < actionCount t → P c 1) → ((c : ℕ) → actionCount t ≤ c → P c unknown) → (c : ℕ) → P c (boundOf v c)
     cases P p q c = go (decLt c (actionCount t))
       where
         go : Dec (c < actionCount t) → P c (boundOf v c)
         go (yes h) = rw (low c h) (p c h)
         go (no h) = let g : actionCount t ≤ c = omega arith in rw (high c g) (q c g)
 
-first-low : (a n c : ℕ) → c < a → boundOf (replicate a 1 ++ replicate n 65) c ≡ 1
+first-low : (a n c : ℕ) → c < a → boundOf (replicate a 1 ++ replicate n unknown) c ≡ 1
 first-low zero n c h = absurd (omega arith)
 first-low (suc a) n zero h = refl
 first-low (suc a) n (suc c) h = first-low a n c (omega arith)
 
-first-high : (a n c : ℕ) → a ≤ c → boundOf (replicate a 1 ++ replicate n 65) c ≡ 65
+first-high : (a n c : ℕ) → a ≤ c → boundOf (replicate a 1 ++ replicate n unknown) c ≡ unknown
 first-high zero zero c h = refl
 first-high zero (suc n) zero h = refl
 first-high zero (suc n) (suc c) h = first-high zero n c (omega arith)

@@ -9,7 +9,7 @@ use Rattle.rules.specs.Tables.{Table, actionCount, methodCount, startTas
 use Rattle.rules.specs.Progression.{Step, fits, moved, isEmpty, stays, due, resting}
 
 -- "the stack alone can be emptied when heights count at" the form's "resting points": the steps empty it, from a point at which o
--- prefix actions are due, and leave at most b tasks at every such point. "Facts stay ignored, so a dead method still counts."
+-- prefix actions are due, and leave at most b tasks wherever none is due. "Facts stay ignored, so a dead method still counts."
 abbrev pub Clears : ℕ → ℕ → Table → ℕ → List ℕ → List Step → Type 0
 Clears b f t o st [] = T (isEmpty st)
 Clears b f t o st (x ∷ xs) = T (fits t st x) × T (resting b (due f t o x) (moved t st x)) × Clears b f t (due f t o x) (moved t st x) xs

@@ -94,9 +94,9 @@ remain f t k = length (method t k .subs) - length (prefix f t k)
 
 -- How many prefix actions are due after a step, where `o` were before it.
 abbrev pub due : ℕ → Table → ℕ → Step → ℕ
+due f t o (mth k) = length (prefix f t k)
 due f t zero (act k) = zero
 due f t (suc o) (act k) = o
-due f t o (mth k) = length (prefix f t k)
 
 -- "resting points are the start, the end of a method with that whole run, and the end of a single action": those where none is due.
 -- At such a point the stack's height is within the bound b.

@@ -1,4 +1,5 @@
--- The examples of document 01 that are marked P, and the hints of document 02, C-12, from bytes.
+-- The examples of document 01 that are marked P, with U's least bounds as document 02, C-12 has them ("U gives 2 and 1"), and least
+-- bounds of tables beside it, from bytes.
 use Prim.Native.Nat.{ℕ}
 use mathlib.Core.Path.{_≡_, refl}
 use mathlib.Core.List.{List, [], _∷_}
@@ -39,8 +40,10 @@ pub examples :
     × (checkPlan 1 0 tableU (bytes "(m0 1)\n") ≡ refusal 12 1)
     × (checkPlan 1 1 tableU (bytes "(m0 1)\n") ≡ accepted 6 1 3)
     × (checkPlan 2 0 tableU (bytes "(m0 1)\n(a0 2)\n(a0 1)\n") ≡ accepted 6 3 3)
-unfolding many groupsBefore groupsValue sound numberAt inRange ranged header readAction readMethod closed decode without joinOne joinFrom joinOf joined positions linesOf checkLines stepBytes planNumber tableRead formRead opened checkPlan expandPlan
-examples = (refl, refl, refl, refl, refl, refl, refl, refl, refl, refl, refl, refl, refl)
+    × (findLeast 0 tableU ≡ answer 2)
+    × (findLeast 1 tableU ≡ answer 1)
+unfolding many groupsBefore groupsValue sound numberAt inRange ranged header readAction readMethod closed decode without joinOne joinFrom joinOf joined positions linesOf checkLines stepBytes planNumber tableRead formRead opened checkPlan expandPlan leastBound findLeast
+examples = (refl, refl, refl, refl, refl, refl, refl, refl, refl, refl, refl, refl, refl, refl, refl)
 
 -- T with a method of eight actions: no two forms lie further apart.
 abbrev tableV : List ℕ
@@ -50,14 +53,12 @@ tableV = 1 ∷ 1 ∷ 1 ∷ 1 ∷ 1 ∷ 0 ∷ 1 ∷ 0 ∷ 1 ∷ 0 ∷ 3 ∷ 1 ∷
 abbrev tableW : List ℕ
 tableW = 1 ∷ 1 ∷ 1 ∷ 1 ∷ 1 ∷ 1 ∷ 0 ∷ 1 ∷ 0 ∷ 1 ∷ 3 ∷ 1 ∷ 2 ∷ 0 ∷ 0 ∷ []
 
--- "Least bound of U: 2", and "U gives 2 and 1". Form 2 is refused before the table is looked at.
+-- The least bounds of these, and form 2, which is refused before the table is looked at.
 pub hints :
-    (findLeast 0 tableU ≡ answer 2)
-    × (findLeast 1 tableU ≡ answer 1)
-    × (findLeast 0 tableV ≡ answer 8)
+    (findLeast 0 tableV ≡ answer 8)
     × (findLeast 1 tableV ≡ answer 1)
     × (findLeast 0 tableW ≡ answer 2)
     × (findLeast 1 tableW ≡ answer 1)
     × ((s : List ℕ) → findLeast 2 s ≡ refusal 2 0)
 unfolding many groupsBefore groupsValue sound numberAt inRange ranged header readAction readMethod closed decode tableRead formRead leastBound findLeast
-hints = (refl, refl, refl, refl, refl, refl, λ s. refl)
+hints = (refl, refl, refl, refl, λ s. refl)

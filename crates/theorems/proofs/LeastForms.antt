@@ -1,39 +1,38 @@
 -- The least bounds of the forms beside each other and beside complete runs, and of tables that differ in facts.
 use Prim.Native.Nat.{ℕ, zero, suc, _+_, _≤_, _<_}
-use mathlib.Core.Path.{_≡_, refl, sym, ap, ap₂, _∙_}
+use mathlib.Core.Path.{_≡_, refl, sym, ap, ap₂, subst, _∙_}
 use mathlib.Core.Logic.{_↔_}
 use mathlib.Core.Bool.{Bool, _&&_, not, cond}
 use mathlib.Core.List.{List, [], _∷_, _++_}
 use native.Mathlib.Omega.{arith}
 use native.Mathlib.Decide.{decLt}
-use lib.ListN.{length, length-append}
+use lib.ListN.{length, length-append, set}
 use lib.Dec.{T, leb, ltb, eqb, leb→le, le→leb, ltb→lt}
 use Rattle.rules.specs.Limits.{mostBound}
 use Rattle.rules.specs.Tables.{Table, actionCount, methodCount, startTask, method}
-use Rattle.rules.specs.Progression.{State, Step, act, mth, fits, enabled, begin, prefix, stays, due, resting}
-use Rattle.rules.specs.LeastBounds.{Clears, Clearable, improve, lowers, round, settled, rounds, total, first, boundOf, upToMost, leastBound}
+use Rattle.rules.specs.Progression.{State, Step, act, mth, fits, moved, enabled, begin, prefix, stays, due, resting}
+use Rattle.rules.specs.LeastBounds.{Clears, Clearable, methodBound, improve, lowers, round, settled, rounds, total, first, boundOf, upToMost, leastBound}
 use Rattle.laws.specs.Valid.{Valid}
 use Rattle.laws.specs.Bounds.{Owed}
 use Rattle.laws.proofs.TestLaws.{and-l, and-r}
-use Rattle.laws.proofs.RestLaws.{low-rests, prefix-owed, none-due}
+use Rattle.laws.proofs.RestLaws.{low-rests, rests-more, prefix-owed, none-due}
 use Rattle.laws.proofs.RoundLaws.{computed}
 use Rattle.theorems.specs.Runs.{Run, CompleteRun}
 use Rattle.theorems.specs.Hints.{SameStacks, Compared, Reaches}
 
 -- In form 0 nothing is ever due and every subtask stays: the height counts at every point, as document 01 had it.
+never-due : (t : Table) (x : Step) → due 0 t 0 x ≡ 0
+never-due t (act k) = refl
+never-due t (mth k) = refl
+
 pub every-point : (b : ℕ) (t : Table) (x : Step) (st : List ℕ) → resting b (due 0 t 0 x) st ≡ leb (length st) b
-every-point b t (act k) st = refl
-every-point b t (mth k) st = refl
+every-point b t x st = ap (λ (o : ℕ). resting b o st) (never-due t x)
 
 pub all-stay : (t : Table) (k : ℕ) → stays 0 t k ≡ method t k .subs
 all-stay t k = refl
 
 -- What a bound clears a greater one clears: the least bound says which do.
 module _ (f : ℕ) (t : Table) where
-  rests-more : (b b′ o : ℕ) (st : List ℕ) → b ≤ b′ → T (resting b o st) → T (resting b′ o st)
-  rests-more b b′ zero st l h = le→leb (length st) b′ (omega (arith, leb→le (length st) b h))
-  rests-more b b′ (suc o) st l h = tt
-
   clears-more : (b b′ : ℕ) → b ≤ b′ → (xs : List Step) (o : ℕ) (st : List ℕ) → Clears b f t o st xs → Clears b′ f t o st xs
   clears-more b b′ l [] o st r = r
   clears-more b b′ l (x ∷ xs) o st r = (r .0, rests-more b b′ (due f t o x) _ l (r .1), clears-more b b′ l xs (due f t o x) _ (r .2))
@@ -47,8 +46,10 @@ module _ (f : ℕ) (t : Table) where
 -- Steps that clear a stack in form 0 clear it in every form: fewer points count.
 plain-clears : (f : ℕ) (t : Table) (b : ℕ) (xs : List Step) (o : ℕ) (st : List ℕ) → Clears b 0 t 0 st xs → Clears b f t o st xs
 plain-clears f t b [] o st r = r
-plain-clears f t b (act k ∷ xs) o st r = (r .0, low-rests b (due f t o (act k)) _ (leb→le _ _ (r .1)), plain-clears f t b xs (due f t o (act k)) _ (r .2))
-plain-clears f t b (mth k ∷ xs) o st r = (r .0, low-rests b (due f t o (mth k)) _ (leb→le _ _ (r .1)), plain-clears f t b xs (due f t o (mth k)) _ (r .2))
+plain-clears f t b (x ∷ xs) o st r =
+    let h : T (leb (length (moved t st x)) b) = subst T (every-point b t x (moved t st x)) (r .1) in
+    let q : Clears b 0 t 0 (moved t st x) xs = subst (λ (n : ℕ). Clears b 0 t n (moved t st x) xs) (never-due t x) (r .2) in
+    (r .0, low-rests b (due f t o x) _ (leb→le _ _ h), plain-clears f t b xs (due f t o x) _ q)
 
 -- Steps that clear a stack in any form clear it in form 0 with 7 more: between two points of rest a method puts up to 8 tasks
 -- in the place of one.
@@ -88,15 +89,15 @@ module _ (f : ℕ) (t : Table) (valid : Valid t) where
       computed f t valid .smallest (leastBound 0 t) (q .0)
       (q .1 .0, (q .1 .1 .0, plain-clears f t (leastBound 0 t) (q .1 .1 .0) 0 _ (q .1 .1 .1)))
 
-  seven-above : 1 ≤ leastBound f t → leastBound f t ≤ 57 → (1 ≤ leastBound 0 t) × (leastBound 0 t ≤ leastBound f t + 7)
+  seven-above : 1 ≤ leastBound f t → leastBound f t + 7 ≤ mostBound → (1 ≤ leastBound 0 t) × (leastBound 0 t ≤ leastBound f t + 7)
   seven-above h l =
       let q = computed f t valid .clears h in
-      computed 0 t valid .smallest (leastBound f t + 7) (omega arith) (seven-more f t valid (leastBound f t) (q .1))
+      computed 0 t valid .smallest (leastBound f t + 7) l (seven-more f t valid (leastBound f t) (q .1))
 
   at-most-7 : 1 ≤ leastBound 0 t → 1 ≤ leastBound f t → leastBound 0 t ≤ leastBound f t + 7
-  at-most-7 g h = go (decLt 57 (leastBound f t))
+  at-most-7 g h = go (decLt mostBound (leastBound f t + 7))
     where
-      go : Dec (57 < leastBound f t) → leastBound 0 t ≤ leastBound f t + 7
+      go : Dec (mostBound < leastBound f t + 7) → leastBound 0 t ≤ leastBound f t + 7
       go (yes l) = omega (arith, computed 0 t valid .clears g .0)
       go (no l) = seven-above h (omega arith) .1
 
@@ -139,19 +140,20 @@ bare t =
     }
 
 module _ (f : ℕ) (t : Table) where
-  lowers-bare : (v : List ℕ) (k : ℕ) → lowers f t v k ≡ lowers f (bare t) v k
-  lowers-bare v k = go f
+  bound-bare : (v : List ℕ) (k : ℕ) → methodBound f t v k ≡ methodBound f (bare t) v k
+  bound-bare v k = go f
     where
-      go : (f : ℕ) → lowers f t v k ≡ lowers f (bare t) v k
+      go : (f : ℕ) → methodBound f t v k ≡ methodBound f (bare t) v k
       go zero = refl
       go (suc f) = refl
 
+  lowers-bare : (v : List ℕ) (k : ℕ) → lowers f t v k ≡ lowers f (bare t) v k
+  lowers-bare v k = ap (λ (n : ℕ). ltb n (boundOf v (method t k .head))) (bound-bare v k)
+
   improve-bare : (v : List ℕ) (k : ℕ) → improve f t v k ≡ improve f (bare t) v k
-  improve-bare v k = go f
-    where
-      go : (f : ℕ) → improve f t v k ≡ improve f (bare t) v k
-      go zero = refl
-      go (suc f) = refl
+  improve-bare v k =
+      let h = method t k .head in
+      ap (λ (n : ℕ). cond (ltb n (boundOf v h)) (set v h n) v) (bound-bare v k)
 
   round-bare : (v : List ℕ) (k : ℕ) → round f t v k ≡ round f (bare t) v k
   round-bare v zero = refl
