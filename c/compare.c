@@ -423,8 +423,8 @@ static void long_plans(uint64_t seed, unsigned count)
 }
 
 /* Chains of every length that end in 0 to 8 actions, whose least bounds are known as long as they are no more than 64: the length
- * in form 1, and in form 0 one more for each of those actions but one. A chain of 64 ends in two actions and has none in form 0;
- * one of 59 ends in six and has 64 there. */
+ * in form 1, and in form 0 one more for each of those actions after the first. A chain of 64 ends in two actions and has none in
+ * form 0; one of 59 ends in six and has 64 there. */
 static void every_chain(uint64_t seed)
 {
     for (unsigned length = 1; length <= 70; length++) {

@@ -102,7 +102,7 @@ uint64_t ildorzhen_section_write(uint64_t bound, uint64_t form, const uint8_t *t
  * _bound hands back the smallest bound, 1 to 64, with which the stack alone, facts ignored, can be emptied; or 0, with no refusal,
  * if there is none. In form 0 the height counts after every action and every method; in form 1 after a method together with the
  * actions that it takes with it, and after any other action. Where form 0 has one form 1 has one, not above it and at most 7 below.
- * It is a hint: with a smaller bound, and with none if it is 0, no plan of that form is accepted or found; a plan may still need a
+ * It is a hint: with a smaller bound, or with any if it is 0, no plan of that form is accepted or found; a plan may still need a
  * greater one, or there may be none, since facts are ignored.
  * Refusals: 2, 3, 5 to 9. Writes: nothing. */
 uint64_t ildorzhen_least_number(uint64_t form, const uint8_t *table, size_t table_length);

@@ -45,11 +45,11 @@ pub examples :
 unfolding many groupsBefore groupsValue sound numberAt inRange ranged header readAction readMethod closed decode without joinOne joinFrom joinOf joined positions linesOf checkLines stepBytes planNumber tableRead formRead opened checkPlan expandPlan leastBound findLeast
 examples = (refl, refl, refl, refl, refl, refl, refl, refl, refl, refl, refl, refl, refl, refl, refl)
 
--- T with a method of eight actions: no two forms lie further apart.
+-- T with a method of eight actions: the forms lie no further apart on any table.
 abbrev tableV : List ℕ
 tableV = 1 ∷ 1 ∷ 1 ∷ 1 ∷ 1 ∷ 0 ∷ 1 ∷ 0 ∷ 1 ∷ 0 ∷ 3 ∷ 1 ∷ 8 ∷ 0 ∷ 0 ∷ 0 ∷ 0 ∷ 0 ∷ 0 ∷ 0 ∷ 0 ∷ []
 
--- Its action needs and deletes the one fact, so the one method, of two of it, is dead in form 1.
+-- A table whose one action needs and deletes its one fact: its one method, that action twice, is dead in form 1.
 abbrev tableW : List ℕ
 tableW = 1 ∷ 1 ∷ 1 ∷ 1 ∷ 1 ∷ 1 ∷ 0 ∷ 1 ∷ 0 ∷ 1 ∷ 3 ∷ 1 ∷ 2 ∷ 0 ∷ 0 ∷ []
 

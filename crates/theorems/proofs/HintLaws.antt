@@ -16,7 +16,7 @@ use Rattle.theorems.proofs.Demand3.{form-given, in-form}
 use Rattle.theorems.proofs.Completion.{least-is, accepted-completes}
 use Rattle.theorems.proofs.LeastForms.{compared, run-reaches, facts-ignored}
 
--- Both forms' of any bytes: none of either is handed back where the table is refused.
+-- The least bounds of both forms, of any bytes: 0 and 0 where the table is refused.
 pub hints-compared : (s : List ℕ) → Compared (valueOf itself (findLeast 0 s)) (valueOf itself (findLeast 1 s))
 unfolding findLeast
 hints-compared s =

@@ -19,7 +19,7 @@ returns c =
     let s = c .before .before .before .before .before in
     let e = c .before .before .start-task .ensures in
     start-low (tableOf (s .args .words .now)) (s .args .bounds .now) (c .before .before .start-task .result) e
-    (omega (arith, e, s .pre .0 .valid .head .abstracts, s .pre .0 .valid .head .start-high, s .pre .1)) (c .if1 .taken)
+    (omega (arith, e, s .pre .0 .valid .head .abstracts, s .pre .0 .valid .head .start-high, s .pre .1)) (omega (arith, c .if1 .taken))
 
 returns-2 : tie.Need-returns-2
 returns-2 c =
