@@ -53,12 +53,22 @@ tableV = 1 ∷ 1 ∷ 1 ∷ 1 ∷ 1 ∷ 0 ∷ 1 ∷ 0 ∷ 1 ∷ 0 ∷ 3 ∷ 1 ∷
 abbrev tableW : List ℕ
 tableW = 1 ∷ 1 ∷ 1 ∷ 1 ∷ 1 ∷ 1 ∷ 0 ∷ 1 ∷ 0 ∷ 1 ∷ 3 ∷ 1 ∷ 2 ∷ 0 ∷ 0 ∷ []
 
+-- Two tables with one method, of task 1 twice for task 2, and two abstract tasks. In the first task 1 is abstract and has no method; in
+-- the second there is one action more, and it is that.
+abbrev tableX : List ℕ
+tableX = 0 ∷ 1 ∷ 2 ∷ 1 ∷ 2 ∷ 0 ∷ 0 ∷ 0 ∷ 0 ∷ 0 ∷ 0 ∷ 2 ∷ 2 ∷ 1 ∷ 1 ∷ []
+
+abbrev tableY : List ℕ
+tableY = 0 ∷ 2 ∷ 2 ∷ 1 ∷ 2 ∷ 0 ∷ 0 ∷ 0 ∷ 0 ∷ 0 ∷ 0 ∷ 0 ∷ 0 ∷ 0 ∷ 0 ∷ 2 ∷ 2 ∷ 1 ∷ 1 ∷ []
+
 -- The least bounds of these, and form 2, which is refused before the table is looked at.
 pub hints :
     (findLeast 0 tableV ≡ answer 8)
     × (findLeast 1 tableV ≡ answer 1)
     × (findLeast 0 tableW ≡ answer 2)
     × (findLeast 1 tableW ≡ answer 1)
+    × (findLeast 0 tableX ≡ answer 0)
+    × (findLeast 0 tableY ≡ answer 2)
     × ((s : List ℕ) → findLeast 2 s ≡ refusal 2 0)
 unfolding many groupsBefore groupsValue sound numberAt inRange ranged header readAction readMethod closed decode tableRead formRead leastBound findLeast
-hints = (refl, refl, refl, refl, λ s. refl)
+hints = (refl, refl, refl, refl, refl, refl, λ s. refl)
