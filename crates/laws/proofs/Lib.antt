@@ -3,6 +3,7 @@ pub mod AnswerLaws
 pub mod ListLaws
 pub mod TextLaws
 pub mod StoreLaws
+pub mod ReadingLaws
 pub mod NumberLaws
 pub mod TableLaws
 pub mod SetLaws

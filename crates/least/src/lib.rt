@@ -1,12 +1,11 @@
 // The least bound of a table in words, for a form: found in rounds over its methods.
 ghost use mathlib.Core.Path.{_≡_};
 ghost use mathlib.Core.Bool.{not, _||_};
-ghost use Prim.Native.Nat.{_<_, _≤_, max};
+ghost use Prim.Native.Nat.{_<_, _≤_};
 ghost use lib.ListN.{length};
 ghost use lib.Dec.{T};
 ghost use Rattle.rules.specs.Tables.{taskCount, methodCount, startTask};
-ghost use Rattle.rules.specs.Progression.{prefix};
-ghost use Rattle.rules.specs.LeastBounds.{boundOf, methodBound, lowers, improve, round, settled, upToMost, leastBound};
+ghost use Rattle.rules.specs.LeastBounds.{boundOf, lowers, improve, round, settled, upToMost, leastBound};
 ghost use Rattle.laws.specs.Bounds.{Kept};
 ghost use Rattle.least.specs.Ones.{Ones};
 ghost use Rattle.words.specs.Words.{tableOf, Held};
@@ -18,51 +17,6 @@ const UNKNOWN: u8 = MOST_BOUND as u8 + 1;
 
 const TASKS: usize = MOST_TASKS as usize;
 
-fn higher(a: u64, b: u64) -> u64
-    ensures { λ r. ⌜ r ≡ max a b ⌝ }
-{
-    if a < b { b } else { a }
-}
-
-// How many actions method k takes with it. `operators` joins them as it counts, which every round here would pay for.
-fn prefix_length(words: &[u64], form: u64, k: usize) -> usize
-    requires { ⌜ Held (now words) × (k < methodCount (tableOf (now words))) ⌝ }
-    ensures { λ r. ⌜ r ≡ length (prefix form (tableOf (now (words .entry))) k) ⌝ }
-{
-    if form == 0 {
-        return 0;
-    }
-    let n = words::width_of(words, k);
-    let actions = words::action_count(words) as usize;
-    let mut count = 0;
-    while count < n {
-        let task = words::subtask(words, k, count);
-        if actions <= task {
-            return count;
-        }
-        count += 1;
-    }
-    count
-}
-
-// How high those of method k's subtasks rise that stay, each above those after it; at least to the place of its head.
-fn method_bound(words: &[u64], form: u64, k: usize, bounds: &[u8]) -> u64
-    requires { ⌜ Held (now words) × (k < methodCount (tableOf (now words))) × (taskCount (tableOf (now words)) ≤ length (now bounds)) ⌝ }
-    ensures { λ r. ⌜ r ≡ methodBound form (tableOf (now (words .entry))) (now (bounds .entry)) k ⌝ }
-{
-    let n = words::width_of(words, k);
-    let mut best: u64 = 1;
-    let mut j = prefix_length(words, form, k);
-    while j < n {
-        let task = words::subtask(words, k, j);
-        let own = bounds[task] as u64;
-        let under = (n - 1 - j) as u64;
-        best = higher(best, own + under);
-        j += 1;
-    }
-    best
-}
-
 // Lowers the bound of method k's head where the method does; whether it or one before it did.
 fn improve_one(words: &[u64], form: u64, k: usize, bounds: &mut [u8], lowered: bool) -> bool
     requires { ⌜ Held (now words) × (k < methodCount (tableOf (now words))) × (taskCount (tableOf (now words)) ≤ length (now bounds)) ⌝ }
@@ -70,7 +24,7 @@ fn improve_one(words: &[u64], form: u64, k: usize, bounds: &mut [u8], lowered: b
     ensures { λ r. ⌜ r ≡ (lowered || lowers form (tableOf (now (words .entry))) (now (bounds .entry)) k) ⌝ }
 {
     let head = words::head_of(words, k);
-    let next = method_bound(words, form, k, bounds);
+    let next = rising::method_bound(words, form, k, bounds);
     let old = bounds[head] as u64;
     if next < old {
         bounds[head] = next as u8;

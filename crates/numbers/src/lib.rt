@@ -16,6 +16,12 @@ pub enum Num {
     Bad(u64, usize),
 }
 
+// The place after what was read into words, or a refusal's number and place.
+pub enum Onward {
+    To(usize),
+    Bad(u64, usize),
+}
+
 fn wide(x: u8) -> u64
     ensures { λ r. ⌜ r ≡ x ⌝ }
 {

@@ -5,12 +5,12 @@ ghost use lib.ListN.{length};
 ghost use Rattle.rules.specs.Refusals.{tableRead, formRead, opened};
 ghost use Rattle.words.specs.Words.{tableWords};
 ghost use Rattle.opening.specs.Openings.{Opens, Read, Formed, Usable};
+use numbers::Onward;
 use rules::limits::MOST_BOUND;
 use rules::limits::MOST_TABLE_BYTES;
 use rules::reasons::BAD_BOUND;
 use rules::reasons::BAD_FORM;
 use rules::reasons::TABLE_TOO_LONG;
-use table::Onward;
 
 // The table stands in the words, or a refusal's number and place.
 pub enum Opening {

@@ -7,9 +7,9 @@ use Rattle.rules.specs.Tables.{decode}
 use Rattle.laws.proofs.TableLaws.{valid}
 use Rattle.laws.proofs.AnswerLaws.{via}
 use Rattle.words.specs.Words.{tableWords, tableOf, Held}
-use Rattle.table.specs.Answers.{onwardOf}
-use Rattle.table.specs.declared.Onward.{Onward}
-use Rattle.table.specs.declared.Onward.the-variants.{To}
+use Rattle.numbers.specs.Answers.{onwardOf}
+use Rattle.numbers.specs.declared.Onward.{Onward}
+use Rattle.numbers.specs.declared.Onward.the-variants.{To}
 
 -- Words into which a table was read hold it.
 pub read-held : (s w : List ℕ) (r : Onward) {at : ℕ} → tableWords ≤ length w → onwardOf r (tableOf w) ≡ decode s → r ≡ To at → Held w

@@ -1,26 +1,10 @@
--- What the answers of the code say, as readings of the document.
-use Prim.Native.Nat.{ℕ}
-use mathlib.Core.Path.{_≡_}
-use mathlib.Core.List.{List}
-use lib.ListN.{take}
+-- What the code's answer says, as a reading of the document.
 use Rattle.basics.specs.Readings.{Reading, got, bad}
 use Rattle.rules.specs.Tables.{Action}
 use Rattle.facts.specs.Sets.{actionRead}
 use Rattle.table.specs.declared.OneAction.{OneAction}
-use Rattle.table.specs.declared.OneAction.the-variants.{Got as GotAction, Bad as BadAction}
-use Rattle.table.specs.declared.Onward.{Onward}
-use Rattle.table.specs.declared.Onward.the-variants.{To, Bad}
+use Rattle.table.specs.declared.OneAction.the-variants.{Got, Bad}
 
 abbrev pub actOf : OneAction → Reading Action
-actOf (GotAction a at) = got (actionRead a) at
-actOf (BadAction why at) = bad why at
-
--- What a step says of a value that it left in the words.
-abbrev pub onwardOf : {A : Type 0} → Onward → A → Reading A
-onwardOf (To at) a = got a at
-onwardOf (Bad why at) a = bad why at
-
--- What a step comes to that reads into the words from b on: its answer, with the value that it left there, is the reading, and the
--- words before b stay.
-abbrev pub Reads : {A : Type 0} → Onward → A → Reading A → ℕ → List ℕ → List ℕ → Type 0
-Reads r a reading b old new = (onwardOf r a ≡ reading) × (take b new ≡ take b old)
+actOf (Got a at) = got (actionRead a) at
+actOf (Bad why at) = bad why at

@@ -7,7 +7,7 @@ use Rattle.rules.specs.Tables.{methodCount}
 use Rattle.rules.specs.LeastBounds.{round, settled}
 use Rattle.laws.proofs.RoundLaws.{round-length}
 use Rattle.words.specs.Words.{tableOf}
-use Rattle.least.proofs.BoundLaws.{left-less, round-more, lowered-more}
+use Rattle.least.proofs.BoundLaws.{round-more, lowered-more}
 use borrow.Author.Needs.{needs}
 use Rattle.least.proofs.one_round.Statement.{statement}
 use Rattle.least.proofs.one_round.Tie as tie
@@ -38,7 +38,7 @@ add-k : tie.Need-add-k Inv-loop μ-loop
 add-k c = search needs
 
 loop-less : tie.Need-loop-less Inv-loop μ-loop
-loop-less c = left-less _ _ (c .before .before .before .before .loop-test .taken)
+loop-less c = omega (arith, c .before .before .before .before .loop-test .taken)
 
 loop-again : tie.Need-loop-again Inv-loop μ-loop
 loop-again c =

@@ -5,8 +5,8 @@ use Rattle.rules.specs.Refusals.{readOf}
 use Rattle.laws.proofs.AnswerLaws.{via}
 use Rattle.laws.proofs.RefusalLaws.{table-long, late-refused, table-is}
 use Rattle.words.specs.Words.{tableOf}
-use Rattle.table.specs.Answers.{onwardOf}
-use Rattle.table.specs.declared.Onward.{Onward}
+use Rattle.numbers.specs.Answers.{onwardOf}
+use Rattle.numbers.specs.declared.Onward.{Onward}
 use Rattle.table.proofs.AnswerLaws.{read-held}
 use Rattle.opening.proofs.OpeningLaws.{opening-refused, opening-opened}
 use Rattle.opening.proofs.open_table.Statement.{statement}

@@ -4,7 +4,8 @@ use Rattle.table.specs.Answers.{actOf}
 use Rattle.words.specs.Words.{actionOf, headerWords, perAction}
 use Rattle.basics.specs.Lists.{rows}
 use Rattle.laws.proofs.AnswerLaws.{via}
-use Rattle.table.proofs.WordLaws.{many-bad, turn, action-kept}
+use Rattle.laws.proofs.ReadingLaws.{many-bad, turn}
+use Rattle.table.proofs.WordLaws.{action-kept}
 use Rattle.laws.proofs.StoreLaws.{kept-less}
 use mathlib.Core.Path.{_≡_, refl, ap, sym, subst, _∙_}
 use Prim.Native.Nat.{ℕ, _≤_, _-_, _+_, _*_}

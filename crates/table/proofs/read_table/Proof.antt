@@ -6,8 +6,8 @@ use Rattle.rules.specs.Tables.{Table, decode, closed}
 use Rattle.basics.specs.Lists.{rows}
 use Rattle.words.specs.Words.{actionOf, methodOf}
 use Rattle.header.specs.Answers.{headerRead, headOf}
-use Rattle.table.specs.Answers.{onwardOf}
-use Rattle.table.specs.declared.Onward.{Onward}
+use Rattle.numbers.specs.Answers.{onwardOf}
+use Rattle.numbers.specs.declared.Onward.{Onward}
 use Rattle.laws.proofs.AnswerLaws.{via}
 use Rattle.table.proofs.WordLaws.{table-held}
 use Rattle.laws.proofs.TableLaws.{bounded}

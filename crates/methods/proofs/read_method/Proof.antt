@@ -2,14 +2,14 @@ use mathlib.Core.Path.{refl, ap, sym, _∙_}
 use native.Mathlib.Omega.{arith}
 use lib.ListN.{length-set}
 use Rattle.numbers.specs.Answers.{numOf}
-use Rattle.table.specs.Answers.{onwardOf}
+use Rattle.numbers.specs.Answers.{onwardOf}
 use Rattle.rules.specs.Tables.{readMethod}
 use Rattle.laws.proofs.NumberLaws.{ranged-got}
 use Rattle.laws.proofs.AnswerLaws.{via}
-use Rattle.table.proofs.WordLaws.{put-method, method-got}
+use Rattle.methods.proofs.MethodLaws.{put-method, method-got}
 use borrow.Author.Needs.{needs}
-use Rattle.table.proofs.read_method.Statement.{statement}
-use Rattle.table.proofs.read_method.Tie as tie
+use Rattle.methods.proofs.read_method.Statement.{statement}
+use Rattle.methods.proofs.read_method.Tie as tie
 
 field-requires : tie.Need-field-requires
 field-requires c κs = search needs

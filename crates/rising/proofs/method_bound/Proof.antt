@@ -7,10 +7,10 @@ use Rattle.rules.specs.LeastBounds.{rise, methodBound}
 use Rattle.words.specs.Words.{tableOf}
 use Rattle.words.proofs.ViewLaws.{subtask-low, width-small}
 use Rattle.laws.proofs.CountLaws.{prefix-short}
-use Rattle.least.proofs.BoundLaws.{left-less, bound-turn, bound-end}
+use Rattle.rising.proofs.RiseLaws.{bound-turn, bound-end}
 use borrow.Author.Needs.{needs}
-use Rattle.least.proofs.method_bound.Statement.{statement}
-use Rattle.least.proofs.method_bound.Tie as tie
+use Rattle.rising.proofs.method_bound.Statement.{statement}
+use Rattle.rising.proofs.method_bound.Tie as tie
 
 abbrev Inv-loop : tie.InvT-loop
 Inv-loop words form k bounds n best₀ j₀ best j =
@@ -64,7 +64,7 @@ add-j : tie.Need-add-j Inv-loop μ-loop
 add-j c = search needs
 
 loop-less : tie.Need-loop-less Inv-loop μ-loop
-loop-less c = left-less _ _ (c .before .before .before .loop-test .taken)
+loop-less c = omega (arith, c .before .before .before .loop-test .taken)
 
 loop-again : tie.Need-loop-again Inv-loop μ-loop
 loop-again c =

@@ -10,10 +10,11 @@ use Rattle.rules.specs.Numbers.{ranged}
 use Rattle.words.specs.Words.{cellOf}
 use Rattle.numbers.specs.Answers.{numOf}
 use Rattle.laws.proofs.AnswerLaws.{via}
-use Rattle.table.proofs.WordLaws.{many-bad, turn, cell-stored, cell-kept}
+use Rattle.laws.proofs.ReadingLaws.{many-bad, turn}
+use Rattle.methods.proofs.MethodLaws.{cell-stored, cell-kept}
 use borrow.Author.Needs.{needs}
-use Rattle.table.proofs.read_subtasks.Statement.{statement}
-use Rattle.table.proofs.read_subtasks.Tie as tie
+use Rattle.methods.proofs.read_subtasks.Statement.{statement}
+use Rattle.methods.proofs.read_subtasks.Tie as tie
 
 abbrev Inv-loop : tie.InvT-loop
 Inv-loop s at words₀ b n hi j₀ p₀ words j p = (j ≤ n) × (length words ≡ length words₀) × (take b words ≡ take b words₀) × (many (ranged s 0 hi notThere) j at ≡ got (rows (cellOf b words) j) p)

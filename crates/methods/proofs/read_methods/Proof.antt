@@ -1,4 +1,4 @@
-use Rattle.table.specs.declared.Onward.{Onward}
+use Rattle.numbers.specs.declared.Onward.{Onward}
 use mathlib.Core.Path.{_≡_, refl, sym, subst, _∙_}
 use Prim.Native.Nat.{ℕ, _≤_, _-_, _+_, _*_}
 use native.Mathlib.Omega.{arith}
@@ -7,13 +7,14 @@ use Rattle.basics.specs.Readings.{got, many}
 use Rattle.rules.specs.Tables.{readMethod}
 use Rattle.words.specs.Words.{methodOf, perMethod, firstMethod}
 use Rattle.basics.specs.Lists.{rows}
-use Rattle.table.specs.Answers.{onwardOf}
+use Rattle.numbers.specs.Answers.{onwardOf}
 use Rattle.laws.proofs.AnswerLaws.{via}
-use Rattle.table.proofs.WordLaws.{many-bad, turn, method-kept}
+use Rattle.laws.proofs.ReadingLaws.{many-bad, turn}
+use Rattle.methods.proofs.MethodLaws.{method-kept}
 use Rattle.laws.proofs.StoreLaws.{kept-less}
 use borrow.Author.Needs.{needs}
-use Rattle.table.proofs.read_methods.Statement.{statement}
-use Rattle.table.proofs.read_methods.Tie as tie
+use Rattle.methods.proofs.read_methods.Statement.{statement}
+use Rattle.methods.proofs.read_methods.Tie as tie
 
 abbrev Inv-loop : tie.InvT-loop
 Inv-loop s at words₀ n lo hi k₀ p₀ words k p = (k ≤ n) × (length words ≡ length words₀) × (take firstMethod words ≡ take firstMethod words₀) × (many (readMethod s lo hi) k at ≡ got (rows (methodOf words) k) p)

@@ -7,8 +7,8 @@ use Rattle.rules.specs.Progression.{prefix}
 use Rattle.laws.proofs.LeadingLaws.{Counted, leading-stops, leading-ends, counted-more, counted-all, prefix-leads}
 use Rattle.words.specs.Words.{tableOf}
 use borrow.Author.Needs.{needs}
-use Rattle.least.proofs.prefix_length.Statement.{statement}
-use Rattle.least.proofs.prefix_length.Tie as tie
+use Rattle.rising.proofs.prefix_length.Statement.{statement}
+use Rattle.rising.proofs.prefix_length.Tie as tie
 
 abbrev Inv-loop : tie.InvT-loop
 Inv-loop words form k n actions count₀ count =
