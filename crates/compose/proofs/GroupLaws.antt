@@ -2,8 +2,7 @@
 use mathlib.Core.Path.{_≡_, refl, sym, ap, ap₂, _∙_}
 use mathlib.Core.Bool.{Bool, true, false, cond}
 use mathlib.Core.List.{List, [], _∷_, _++_, map, append-nil, append-assoc, map-append}
-use Prim.Native.Nat.{ℕ, zero, suc, _+_, _-_, _^_, _≤_, _<_}
-use native.Mathlib.Nat.{not-suc-le-zero, le-of-suc-le-suc}
+use Prim.Native.Nat.{ℕ, suc, _+_, _-_, _^_, _≤_, _<_}
 use native.Mathlib.Decide.{ℕ-discrete}
 use native.Mathlib.Numerals.{add-one}
 use native.Mathlib.Omega.{arith}
@@ -20,7 +19,7 @@ use Rattle.rules.specs.Limits.{mostSubtasks}
 use Rattle.rules.specs.Facts.{Join, membersOf}
 use Rattle.rules.specs.Problems.{set, holding, kept, altered, factEffect, change, push, bottomNext, prevails, effects, operAt}
 use Rattle.laws.proofs.JoinSizes.{without-lt}
-use Rattle.laws.proofs.ListLaws.{rows-length, map-rows}
+use Rattle.laws.proofs.ListLaws.{there, rows-length, map-rows}
 use Rattle.laws.proofs.MemberLaws.{members-ones}
 use Rattle.laws.proofs.TextLaws.{concat-append, concat-rows}
 use Rattle.template.specs.Sizes.{mostNumbers}
@@ -168,12 +167,7 @@ bottom-none free rest e = sym (List·getD-eq-default rest free (omega arith))
 pub bottom-last : (free : ℕ) (rest : List ℕ) (task : ℕ) → 0 < length rest → task ≡ getD rest (length rest - 1 - 0) 0 → task ≡ bottomNext free rest
 bottom-last free rest task l e =
     let n : length rest - 1 - 0 ≡ length rest - 1 = omega arith in
-    e ∙ ap (λ (k : ℕ). getD rest k 0) n ∙ any rest (length rest - 1) (omega arith)
-  where
-    any : (xs : List ℕ) (n : ℕ) → n < length xs → getD xs n 0 ≡ getD xs n free
-    any [] n h = absurd (not-suc-le-zero h)
-    any (x ∷ xs) zero h = refl
-    any (x ∷ xs) (suc n) h = any xs n (le-of-suc-le-suc h)
+    e ∙ ap (λ (k : ℕ). getD rest k 0) n ∙ there rest (length rest - 1) 0 free (omega arith)
 
 -- ---- the room for all of it, which goes by what happens to the stack alone
 

@@ -1,4 +1,4 @@
--- Laws of lists made from a number.
+-- Laws of lists made from a number, and of what a list has at a place.
 use mathlib.Core.Path.{_≡_, refl, ap, ap₂, sym, _∙_}
 use mathlib.Core.List.{List, [], _∷_, _++_, map, append-nil, append-assoc, map-append}
 use mathlib.Core.Bool.{Bool, true, false, cond}
@@ -10,6 +10,12 @@ use native.Mathlib.Omega.{arith}
 use lib.ListN.{length, getD, length-append, List·getD-append}
 use lib.Seq.{getD-at, getD-append-add}
 use Rattle.basics.specs.Lists.{rows, upto, sumTo}
+
+-- Where there is something, it does not matter what is told where there is nothing.
+pub there : {A : Type 0} (xs : List A) (k : ℕ) (d e : A) → k < length xs → getD xs k d ≡ getD xs k e
+there [] k d e h = absurd (omega arith)
+there (x ∷ xs) zero d e h = refl
+there (x ∷ xs) (suc k) d e h = there xs k d e (omega arith)
 
 module _ {A : Type 0} (f : ℕ → A) where
   pub rows-length : (n : ℕ) → length (rows f n) ≡ n

@@ -29,7 +29,7 @@ module _ {A : Type 0} (p : ℕ → Reading A) (from : ℕ) where
   unfolding many
   many-bad n k l e f = stays n (suc k) l (rw (e, f))
 
--- One more into words, which leaves the rows before it.
+-- One more, read into words by a step that leaves the rows before it.
 module _ {A : Type 0} (view : List ℕ → ℕ → A) (p : ℕ → Reading A) (from : ℕ) where
   pub turn : (w w′ : List ℕ) (k : ℕ) {at next : ℕ} → many p k from ≡ got (rows (view w) k) at → p at ≡ got (view w′ k) next → ((j : ℕ) → j < k → view w′ j ≡ view w j) → many p (k + 1) from ≡ got (rows (view w′) (k + 1)) next
   unfolding rows

@@ -13,14 +13,14 @@ use Rattle.rules.specs.Tables.{Table, actionCount, taskCount, startTask, method
 use Rattle.rules.specs.Limits.{mostBound}
 use Rattle.rules.specs.LeastBounds.{unknown, boundOf, methodBound, lowers, improve, round, settled, upToMost}
 use Rattle.laws.specs.Bounds.{Kept}
+use Rattle.laws.proofs.ListLaws.{there}
 use Rattle.laws.proofs.RoundLaws.{settled-more, begins}
-use Rattle.rising.proofs.RiseLaws.{bound-in}
 use Rattle.least.specs.Ones.{Ones}
 
 -- The head's bound is lowered, or stays.
 module _ (f : ℕ) (t : Table) (v : List ℕ) (k head next : ℕ) (h : head ≡ method t k .head) (n : next ≡ methodBound f t v k) (l : head < length v) where
   old : getD v head 0 ≡ boundOf v (method t k .head)
-  old = bound-in v head l ∙ ap (boundOf v) h
+  old = there v head 0 unknown l ∙ ap (boundOf v) h
 
   pub lowered : (b : Bool) → next < getD v head 0 → (set v head next ≡ improve f t v k) × (true ≡ (b || lowers f t v k))
   lowered b i =
@@ -35,7 +35,7 @@ module _ (f : ℕ) (t : Table) (v : List ℕ) (k head next : ℕ) (h : head ≡ 
 -- The starting task's bound, or 0.
 module _ (t : Table) (v : List ℕ) (start : ℕ) (e : start ≡ startTask t) (l : start < length v) where
   found : getD v start 0 ≡ boundOf v (startTask t)
-  found = bound-in v start l ∙ ap (boundOf v) e
+  found = there v start 0 unknown l ∙ ap (boundOf v) e
 
   pub start-low : getD v start 0 ≤ mostBound → getD v start 0 ≡ upToMost (boundOf v (startTask t))
   start-low h = sym (rw (← found, le-leb (getD v start 0) mostBound h))

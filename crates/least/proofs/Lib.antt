@@ -1,1 +1,1 @@
-pub mod BoundLaws
+mod BoundLaws

@@ -67,7 +67,7 @@ method-kept s lo hi from w w′ k e q j l =
     λ i. record { head = at b (omega arith) i; subs = d i }
 
 -- What a step says, carried on.
-pub step-map : {A B : Type 0} (f : A → B) (r : Onward) (a : A) → then (onwardOf r a) (λ x at. got (f x) at) ≡ onwardOf r (f a)
+step-map : {A B : Type 0} (f : A → B) (r : Onward) (a : A) → then (onwardOf r a) (λ x at. got (f x) at) ≡ onwardOf r (f a)
 step-map f (To at) a = refl
 step-map f (Bad why at) a = refl
 

@@ -1,4 +1,4 @@
-// One number of a table: groups of seven bits, checked against a range.
+// One number of a table: groups of seven bits, checked against a range; and what reading more of them into words comes to.
 ghost use mathlib.Core.Path.{_≡_};
 ghost use Prim.Native.Nat.{_+_, _-_, _*_, _^_, _≤_, _<_};
 ghost use lib.ListN.{length, drop, getD};

@@ -1,1 +1,1 @@
-pub mod RiseLaws
+mod RiseLaws

@@ -1,24 +1,19 @@
 -- A turn of the loop over a method's subtasks.
-use Prim.Native.Nat.{ℕ, zero, suc, _+_, _-_, _≤_, _<_, max}
-use mathlib.Core.Path.{_≡_, refl, ap, ap₂, _∙_}
-use mathlib.Core.List.{List, [], _∷_}
+use Prim.Native.Nat.{ℕ, suc, _+_, _-_, _≤_, _<_, max}
+use mathlib.Core.Path.{_≡_, ap, ap₂, _∙_}
+use mathlib.Core.List.{List}
 use native.Mathlib.Omega.{arith}
 use native.Mathlib.Numerals.{add-one}
 use lib.ListN.{length, getD, drop, drop-of-length-le, length-drop}
 use lib.Seq.{drop-cons}
-use Rattle.rules.specs.LeastBounds.{boundOf, rise}
-
--- A bound that is there.
-pub bound-in : (v : List ℕ) (c : ℕ) → c < length v → getD v c 0 ≡ boundOf v c
-bound-in [] c h = absurd (omega arith)
-bound-in (x ∷ v) zero h = refl
-bound-in (x ∷ v) (suc c) h = bound-in v c (omega arith)
+use Rattle.rules.specs.LeastBounds.{unknown, boundOf, rise}
+use Rattle.laws.proofs.ListLaws.{there}
 
 max-first : (a b r m x : ℕ) → m ≡ max b r → max a m ≡ x → max (max a b) r ≡ x
 max-first a b r m x d e = omega arith
 
 -- The subtask at j rises above those after it.
-pub rise-more : (v ts : List ℕ) (j best x : ℕ) → j < length ts → max best (rise v (drop j ts)) ≡ x
+rise-more : (v ts : List ℕ) (j best x : ℕ) → j < length ts → max best (rise v (drop j ts)) ≡ x
     → max (max best (boundOf v (getD ts j 0) + (length ts - 1 - j))) (rise v (drop (j + 1) ts)) ≡ x
 rise-more v ts j best x h e =
     let l : length ts - 1 - j ≡ length (drop (suc j) ts) = omega (arith, length-drop (suc j) ts) in
@@ -30,7 +25,7 @@ pub bound-turn : (v ts : List ℕ) (j best n task r x : ℕ) → n ≡ length ts
     → max r (rise v (drop (j + 1) ts)) ≡ x
 bound-turn v ts j best n task r x d h e l a i =
     let s : r ≡ max best (boundOf v (getD ts j 0) + (length ts - 1 - j)) =
-    a ∙ ap₂ (λ (y z : ℕ). max best (y + (z - 1 - j))) (bound-in v task l ∙ ap (boundOf v) e) d
+    a ∙ ap₂ (λ (y z : ℕ). max best (y + (z - 1 - j))) (there v task 0 unknown l ∙ ap (boundOf v) e) d
     in
     rw s (rise-more v ts j best x (omega arith) i)
 

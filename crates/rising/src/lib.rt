@@ -1,4 +1,4 @@
-// How high the stack rises above a method of a table in words, for a form, when bounds of its tasks are known.
+// How high a method of a table in words rises, in a form, with bounds for its tasks.
 ghost use mathlib.Core.Path.{_≡_};
 ghost use Prim.Native.Nat.{_<_, _≤_, max};
 ghost use lib.ListN.{length};

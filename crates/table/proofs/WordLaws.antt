@@ -19,7 +19,7 @@ action-kept w w′ k q j l =
     λ i. record { needs = at (headerWords + perAction * j) (omega arith) i; adds = at (headerWords + perAction * j + 1) (omega arith) i; dels = at (headerWords + perAction * j + 2) (omega arith) i; cost = at (headerWords + perAction * j + 3) (omega arith) i }
 
 -- The header is kept.
-pub header-kept : (w w′ : List ℕ) → take headerWords w′ ≡ take headerWords w → headerOf w′ ≡ headerOf w
+header-kept : (w w′ : List ℕ) → take headerWords w′ ≡ take headerWords w → headerOf w′ ≡ headerOf w
 header-kept w w′ q = same-header w w′ (below w w′ headerWords q)
 
 -- The table that the words hold, from what each part left in them.

@@ -1,8 +1,7 @@
 use mathlib.Core.Path.{refl, ap, sym, _∙_}
 use native.Mathlib.Omega.{arith}
 use lib.ListN.{length-set}
-use Rattle.numbers.specs.Answers.{numOf}
-use Rattle.numbers.specs.Answers.{onwardOf}
+use Rattle.numbers.specs.Answers.{numOf, onwardOf}
 use Rattle.rules.specs.Tables.{readMethod}
 use Rattle.laws.proofs.NumberLaws.{ranged-got}
 use Rattle.laws.proofs.AnswerLaws.{via}
