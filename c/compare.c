@@ -223,6 +223,28 @@ static struct walk draw_problem(enum size size, unsigned bound, unsigned form, u
     return w;
 }
 
+/* The same lines with other line ends, line by line, have the same answers. */
+static void compare_ends(const struct question *q, const struct plain_verdict *v)
+{
+    struct question other = *q;
+    change_ends(&damaged, &plan, other.draws);
+    if (damaged.length > 65536)
+        return;
+    other.plan = damaged.bytes;
+    other.plan_length = damaged.length;
+    struct plain_verdict w = compare(&other);
+    tally.failing = 0;
+    same("line ends: refusal", w.number, v->number);
+    same("line ends: place", w.place, v->place);
+    same("line ends: cost", w.cost, v->cost);
+    same("line ends: operators", w.operators, v->operators);
+    same("line ends: steps", w.steps, v->steps);
+    if (tally.failing)
+        tell_case(&other);
+    tally.failed += (uint64_t)tally.failing;
+    tally.ends[damaged.returns] += v->number == 0 && v->operators > 1;
+}
+
 /* The walk went step by step and knows what the check has to say. */
 static void compare_walk(struct question *q, const struct walk *w)
 {
@@ -239,6 +261,7 @@ static void compare_walk(struct question *q, const struct walk *w)
     if (tally.failing)
         tell_case(q);
     tally.failed += (uint64_t)tally.failing;
+    compare_ends(q, &v);
 }
 
 /* One damage or several, in the arguments, the table or the plan. */
@@ -496,6 +519,9 @@ static void account(void)
     }
     printf("cases with two least bounds %lu\n", (unsigned long)tally.two_leasts);
     tally.failed += tally.two_leasts == 0;
+    printf("accepted plans of two operators and more: with line feeds %lu, with carriage returns %lu, drawn %lu\n",
+           (unsigned long)tally.ends[0], (unsigned long)tally.ends[1], (unsigned long)(tally.ends[2] + tally.ends[3]));
+    tally.failed += !tally.ends[0] + !tally.ends[1] + !tally.ends[2] + !tally.ends[3];
     printf("accepted plans %lu; longest table read %lu bytes, longest plan accepted %lu bytes, most steps %lu\n",
            (unsigned long)tally.accepted, (unsigned long)tally.longest_table, (unsigned long)tally.longest_plan,
            (unsigned long)tally.most_steps);

@@ -1,5 +1,6 @@
 /* The night of March, from the console's side: a table of switch procedures, the whole plan, the half plan that was taken for
- * a whole one, a plan of the console's own for the day without a planner, and damaged tables. The rule is in judge: nothing goes
+ * a whole one, a plan from the desk whose planner ends its lines with carriage return and line feed, a plan of the console's own for
+ * the day without a planner, and damaged tables. The rule is in judge: nothing goes
  * to the switches but an accepted plan's steps. */
 #include "ildorzhen.h"
 #include "words.h"
@@ -128,6 +129,7 @@ int main(void)
     static const char whole[] = "(m0 1)\n(a0 3)\n(m1 2)\n(a1 3)\n(a2 2)\n(a3 1)\n; cost = 240 (general cost)\n";
     static const char shorter[] = "(m0 1)\n(m1 2)\n(a3 1)\n", half[] = "(m0 1)\n(a0 3)\n";
     static const char unloaded[] = "(m0 1)\n(a0 3)\n(m2 2)\n(a2 2)\n(a3 1)\n";
+    static const char other_desk[] = "(m0 1)\r\n(m1 2)\r\n(a3 1)\r\n; cost = 240 (general cost)\r\n";
     uint64_t bound = read_table("table", ILDORZHEN_PLAIN, TABLE, sizeof TABLE);
     uint64_t prefix_bound = read_table("table", ILDORZHEN_PREFIX, TABLE, sizeof TABLE);
     if (bound == 0 || prefix_bound == 0)
@@ -137,6 +139,7 @@ int main(void)
         printf("  fact: %s%s%s\n", FACTS[k], (number(5) >> k) & 1 ? ", given" : "", (number(6) >> k) & 1 ? ", wanted" : "");
     judge("whole plan", bound, ILDORZHEN_PLAIN, whole, sizeof whole - 1); /* a plan is without C's closing zero */
     judge("the same in form 1", prefix_bound, ILDORZHEN_PREFIX, shorter, sizeof shorter - 1);
+    judge("the same from the other desk", prefix_bound, ILDORZHEN_PREFIX, other_desk, sizeof other_desk - 1);
     judge("half plan of March", bound, ILDORZHEN_PLAIN, half, sizeof half - 1);
     judge("plan that loads nothing", bound, ILDORZHEN_PLAIN, unloaded, sizeof unloaded - 1);
     judge("no plan", bound, ILDORZHEN_PLAIN, NULL, 0);

@@ -6,7 +6,7 @@
 
 int strcmp(const char *one, const char *other);
 
-enum { INPUT_ROOM = 140000, STEPS_ROOM = 200000, TEXT_ROOM = 4096 };
+enum { INPUT_ROOM = 140000, STEPS_ROOM = 200000, TEXT_ROOM = 4096, PLAN_ROOM = 65536 };
 
 /* The table's problem has 36,082 sections in form 0 and 37,520 in form 1: the head, a fact, top, a position, the middle,
  * operators of actions and methods. */
@@ -48,16 +48,39 @@ static uint64_t do_job(const struct jobs *jobs, const struct input *in, const ch
     return sum;
 }
 
-/* The emitting program's input, or the checking program's. */
-static uint64_t do_call(const struct jobs *jobs, const uint8_t *bytes, size_t length, const char *job, int is_plan)
+/* Of a plan the first lines, as many as fit with a carriage return each: without, or with it. */
+static size_t copy_lines(uint8_t *to, const uint8_t *plan, size_t length, int returns)
 {
+    size_t written = 0, whole = 0, lines = 0;
+    for (size_t k = 0; k < length && k + lines + 2 <= PLAN_ROOM; k++) {
+        int ends = plan[k] == '\n';
+        lines += ends;
+        if (ends && returns)
+            to[written++] = '\r';
+        to[written++] = plan[k];
+        if (ends)
+            whole = written;
+    }
+    return whole;
+}
+
+/* The emitting program's input, or the checking program's: with its plan, its first lines by one line end or the other, or no line. */
+static uint64_t do_call(const struct jobs *jobs, const uint8_t *bytes, size_t length, const char *job, const char *kind)
+{
+    static uint8_t lines[PLAN_ROOM];
     struct input in = {bytes[0], bytes[1], 0, 0, bytes + 2, NULL, length - 2, 0};
-    if (is_plan) {
+    if (strcmp(kind, "table")) {
         in.table_length = bytes[2] + 256u * bytes[3];
         in.table = bytes + 4;
         in.plan = in.table + in.table_length;
         in.plan_length = length - 4 - in.table_length;
     }
+    if (!strcmp(kind, "feeds") || !strcmp(kind, "returns")) {
+        in.plan_length = copy_lines(lines, in.plan, in.plan_length, !strcmp(kind, "returns"));
+        in.plan = lines;
+    }
+    if (!strcmp(kind, "no-line"))
+        in.plan_length = 0;
     return do_job(jobs, &in, job);
 }
 
@@ -84,7 +107,7 @@ static int run_job(const struct jobs *jobs, int count, char **arguments)
     if (count < 3 || length < 4)
         return 1;
     uint64_t result = !strcmp(arguments[2], "searches") ? do_searches(jobs, bytes, length, arguments[1])
-                      : do_call(jobs, bytes, length, arguments[1], !strcmp(arguments[2], "plan"));
+                      : do_call(jobs, bytes, length, arguments[1], arguments[2]);
     if (count > 3)
         printf("%lu\n", (unsigned long)result);
     return 0;

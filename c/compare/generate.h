@@ -6,7 +6,8 @@
 #include <stdint.h>
 
 enum {
-    MOST_FIELDS = 7 + 255 * 4 + 512 * 10, BEHIND = 64, TABLE_ROOM = 70000, PLAN_ROOM = 70000, LINE_ROOM = 11000
+    MOST_FIELDS = 7 + 255 * 4 + 512 * 10, BEHIND = 64, TABLE_ROOM = 70000, LINE_ROOM = 11000, WALK_ROOM = 70000,
+    PLAN_ROOM = WALK_ROOM + LINE_ROOM   /* a carriage return more for each line */
 };
 
 struct draws { uint64_t state; };
@@ -51,10 +52,12 @@ enum damage {
 };
 void write_table(struct table_text *t, const struct fields *f, unsigned field, enum damage kind, struct draws *d);
 
-/* A plan's text and where its lines start; the last entry is the text's end. */
+/* A plan's text and where its lines start; the last entry is the text's end. Of the lines written one in `returns`, drawn by
+ * `ends`, has a carriage return before its line feed: 0 none, 1 each. */
 struct plan_text {
     size_t length;
-    unsigned lines;
+    unsigned lines, returns;
+    struct draws ends;
     size_t start[LINE_ROOM + 1];
     uint8_t bytes[PLAN_ROOM + BEHIND];
 };
@@ -72,9 +75,12 @@ struct walk walk_model(struct plan_text *p, const struct model *m, unsigned boun
 enum line_damage {
     NO_LINE, TWICE, NO_FEED, MORE_BYTE, LESS_BYTE, WRONG_BYTE, POSITION_UP, POSITION_DOWN, OTHER_NUMBER, NUMBER_ZERO_FIRST,
     POSITION_ZERO_FIRST, FOUR_DIGITS, OTHER_KIND, COMMENTED, CUT_AT_LINE, CUT_IN_LINE, EMPTY_LINE, COMMENT_LINE, RETURN,
-    WIDE_BLANK, SWAPPED, LARGEST_NUMBERS, LINE_DAMAGES
+    TWO_RETURNS, RETURN_INSIDE, RETURN_ALONE, RETURN_FOR_FEED, CUT_AT_RETURN, WIDE_BLANK, SWAPPED, LARGEST_NUMBERS, LINE_DAMAGES
 };
 void damage_line(struct plan_text *to, const struct plan_text *from, unsigned line, enum line_damage kind, struct draws *d);
+
+/* The same lines, each with a line end drawn anew. */
+void change_ends(struct plan_text *to, const struct plan_text *from, struct draws d);
 
 /* Lengthens a plan by comments to exactly this length. */
 void stretch_plan(struct plan_text *p, size_t length);

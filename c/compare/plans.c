@@ -22,8 +22,16 @@ static void put_decimal(struct plan_text *p, unsigned n)
     put_byte(p, (int)('0' + n % 10));
 }
 
+static void draw_ends(struct plan_text *p, struct draws d)
+{
+    p->ends = d;
+    p->returns = below(&p->ends, 4);
+}
+
 static void end_line(struct plan_text *p)
 {
+    if (p->returns && once_in(&p->ends, p->returns))
+        put_byte(p, '\r');
     put_byte(p, '\n');
     p->start[++p->lines] = p->length;
 }
@@ -44,7 +52,7 @@ static void put_comment(struct plan_text *p, struct draws *d)
     put_byte(p, ';');
     for (unsigned k = below(d, 12); k > 0; k--) {
         int byte = (int)(draw(d) & 255);
-        put_byte(p, byte == '\n' ? 0 : byte);
+        put_byte(p, byte == '\n' ? 0 : once_in(d, 6) ? '\r' : byte);
     }
     end_line(p);
 }
@@ -142,7 +150,8 @@ struct walk walk_model(struct plan_text *p, const struct model *m, unsigned boun
     struct stack s = {1, {0, m->first}};
     p->length = p->lines = 0;
     p->start[0] = 0;
-    while (s.height > 0 && p->lines < 2 * wanted + 20 && p->lines + 2 < LINE_ROOM && p->length + 100 < PLAN_ROOM) {
+    draw_ends(p, *d);
+    while (s.height > 0 && p->lines < 2 * wanted + 20 && p->lines + 2 < LINE_ROOM && p->length + 100 < WALK_ROOM) {
         if (comments && once_in(d, comments))
             put_comment(p, d);
         if (!walk_on(&w, &s, p, m, bound, form, p->lines >= wanted, d))
@@ -241,6 +250,26 @@ static void put_other_operator(struct plan_text *to, struct parsed p, enum line_
     }
 }
 
+/* How many bytes a line has before its end. In a comment the carriage return before its line feed is content, which may come and go. */
+static size_t inner_length(const uint8_t *line, size_t length)
+{
+    return length - 1 - (length > 1 && line[length - 2] == '\r');
+}
+
+/* Carriage returns where they are, or are not, of the line's end. */
+static void put_returned(struct plan_text *to, const uint8_t *line, size_t length, enum line_damage kind, struct draws *d)
+{
+    size_t inner = inner_length(line, length), at = kind == RETURN_INSIDE ? below(d, (unsigned)inner) : kind == RETURN_ALONE ? 0 : inner;
+    put_bytes(to, line, at);
+    put_byte(to, '\r');
+    if (kind == TWO_RETURNS)
+        put_byte(to, '\r');
+    if (kind == RETURN || kind == TWO_RETURNS || kind == RETURN_ALONE)
+        put_byte(to, '\n');
+    if (kind == RETURN_INSIDE || kind == RETURN_ALONE)
+        put_bytes(to, line + at, length - at);
+}
+
 static void put_damaged(struct plan_text *to, const struct plan_text *from, unsigned k, enum line_damage kind,
                         struct draws *d)
 {
@@ -255,7 +284,9 @@ static void put_damaged(struct plan_text *to, const struct plan_text *from, unsi
     case CUT_IN_LINE: put_bytes(to, line, below(d, (unsigned)length)); break;
     case EMPTY_LINE: put_byte(to, '\n'); put_bytes(to, line, length); break;
     case COMMENT_LINE: put_comment(to, d); put_bytes(to, line, length); break;
-    case RETURN: put_bytes(to, line, length - 1); put_byte(to, '\r'); put_byte(to, '\n'); break;
+    case RETURN: case TWO_RETURNS: case RETURN_INSIDE: case RETURN_ALONE: case RETURN_FOR_FEED: case CUT_AT_RETURN:
+        put_returned(to, line, length, kind, d);
+        break;
     case WIDE_BLANK: put_blank_line(to, line, length, d); break;
     default: put_other_operator(to, parse_line(from, k), kind, d);
     }
@@ -266,6 +297,8 @@ void damage_line(struct plan_text *to, const struct plan_text *from, unsigned li
 {
     size_t end = from->length, next = from->start[line + 1];
     to->length = to->lines = 0;
+    to->returns = from->returns;
+    to->ends = from->ends;
     put_bytes(to, from->bytes, from->start[line]);
     if (kind == SWAPPED && line + 1 < from->lines) {
         size_t after = from->start[line + 2];
@@ -278,8 +311,19 @@ void damage_line(struct plan_text *to, const struct plan_text *from, unsigned li
     size_t length = to->length;
     put_bytes(to, from->bytes + next, end - next);
     /* A cut leaves the rest of the plan behind the end, where it must not be read. */
-    if (kind == CUT_AT_LINE || kind == CUT_IN_LINE)
+    if (kind == CUT_AT_LINE || kind == CUT_IN_LINE || kind == CUT_AT_RETURN)
         to->length = length;
+}
+
+void change_ends(struct plan_text *to, const struct plan_text *from, struct draws d)
+{
+    to->length = to->lines = 0;
+    draw_ends(to, d);
+    for (unsigned k = 0; k < from->lines; k++) {
+        const uint8_t *line = from->bytes + from->start[k];
+        put_bytes(to, line, inner_length(line, from->start[k + 1] - from->start[k]));
+        end_line(to);
+    }
 }
 
 void stretch_plan(struct plan_text *p, size_t length)

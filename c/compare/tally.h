@@ -8,7 +8,7 @@ enum { GUARD = BEHIND, NUMBERS = 20 };   /* refusals are 1 to 19 */
 enum entry { SECTIONS, SECTION, CHECK, EXPAND, LEAST, SEARCH, ENTRIES };
 
 extern struct tally {
-    uint64_t cases, failed, told, accepted, two_leasts, refusals[ENTRIES][NUMBERS];
+    uint64_t cases, failed, told, accepted, two_leasts, ends[4], refusals[ENTRIES][NUMBERS];
     uint64_t longest_table, longest_plan, most_steps, longest_found, most_found, most_applied;
     int failing;
 } tally;

@@ -49,6 +49,14 @@ static inline const uint8_t *digits(const uint8_t *p, unsigned *value)
     return p;
 }
 
+/* A line's end: a line feed, or a carriage return and a line feed. */
+static inline const uint8_t *end_of_line(const uint8_t *p)
+{
+    if (p[0] == '\n')
+        return p + 1;
+    return p[0] == '\r' && p[1] == '\n' ? p + 2 : NULL;
+}
+
 /* One operator line of a text that ends with a line feed: no part of a line but its end fits a line feed, so nothing
  * behind the text is looked at. Answers where the next line starts, NULL where the line has another shape. */
 static inline const uint8_t *read_line(const uint8_t *p, const struct operators *o, struct line *line)
@@ -65,9 +73,9 @@ static inline const uint8_t *read_line(const uint8_t *p, const struct operators 
     if (!(p = digits(p + 2, &number)) || *p != ' ')
         return NULL;
     line->operator = first + number;
-    if (!(p = digits(p + 1, &line->position)) || p[0] != ')' || p[1] != '\n')
+    if (!(p = digits(p + 1, &line->position)) || *p != ')')
         return NULL;
-    return p + 2;
+    return end_of_line(p + 1);
 }
 
 static inline int emitted(const struct operators *o, const struct line *line)

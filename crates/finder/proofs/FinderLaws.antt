@@ -20,7 +20,7 @@ use Rattle.rules.specs.Walks.{Walked, walk}
 use Rattle.rules.specs.Refusals.{Sought, planText, planBytes, planOf, judged, roomForPlan, textFound, written}
 use Rattle.laws.specs.Valid.{Valid}
 use Rattle.laws.proofs.RefusalLaws.{stores-written}
-use Rattle.theorems.proofs.PlanTexts.{AllSmall}
+use Rattle.theorems.specs.Shapes.{AllSmall}
 use Rattle.sought.proofs.Search.{walk-plan}
 use Rattle.sought.proofs.Plans.{applicable-small}
 use Rattle.sought.proofs.SearchAnswers.{plan-fits, plan-short}

@@ -12,7 +12,7 @@ use native.Mathlib.Numerals.{add-one}
 use borrow.Author.Tests.{leb-true, eq-eqb, ne-eqb, lt-ltb, le-ltb}
 use mathlib.Core.Logic.{_≢_}
 use Rattle.rules.specs.Plans.{isDigit}
-use Rattle.lines.specs.Places.{smallAt, bracketed, positioned, kindOf, operatorAt, feedAt, lineAt}
+use Rattle.lines.specs.Places.{smallAt, endBytes, bracketed, positioned, kindOf, operatorAt, feedAt, lineAt}
 use Rattle.lines.specs.Lines.{Fed, Whole}
 use Rattle.lines.specs.declared.Digits.{Digits}
 use Rattle.lines.specs.declared.Digits.the-variants.{Got, No}
@@ -86,17 +86,42 @@ small-fed {s} {at} {v} {q} f h = go (isDigit (getD s at 0)) refl (isDigit (getD 
     go true a false b z c e x1 x2 x3 g = ends x1 (at + 1) (one a) g
     go false a b e z c d x1 x2 x3 g = let z : _≡_ {A = ℕ} 0 1 = cc in absurd (omega arith)
 
--- The ways out after a position, by its closing bracket y and whether the line ends after it.
+-- The ways out of a line's end, by whether a line feed stands at its place, and whether a carriage return does with a line feed after it.
+module _ (s : List ℕ) (at : ℕ) {feed : Bool} (ef : feed ≡ eqb (getD s at 0) 10) where
+  pub end-feed : feed ≡ true → 1 ≡ endBytes s at
+  unfolding endBytes
+  end-feed h = rw (← ef, h)
+
+  module _ (h : feed ≡ false) {both : Bool} (eb : both ≡ (eqb (getD s at 0) 13 && eqb (getD s (at + 1) 0) 10)) where
+    pub end-none : both ≡ false → 0 ≡ endBytes s at
+    unfolding endBytes
+    end-none g = rw (← ef, h, ← eb, g)
+
+    pub end-both : both ≡ true → 2 ≡ endBytes s at
+    unfolding endBytes
+    end-both g = rw (← ef, h, ← eb, g)
+
+-- A line's end has at most two bytes.
+pub end-most : (s : List ℕ) (at : ℕ) {n : ℕ} → n ≡ endBytes s at → n ≤ 2
+unfolding endBytes
+end-most s at {n} h = go (eqb (getD s at 0) 10) (eqb (getD s at 0) 13 && eqb (getD s (at + 1) 0) 10) h
+  where
+    go : (x y : Bool) → n ≡ cond x 1 (cond y 2 0) → n ≤ 2
+    go true y g = omega (arith, g)
+    go false true g = omega (arith, g)
+    go false false g = omega (arith, g)
+
+-- The ways out after a position, by its closing bracket y and the bytes of the line's end after it.
 module _ (s : List ℕ) (kind number pos q y : ℕ) (ey : y ≡ getD s q 0) where
   pub close-other : y ≢ 41 → Shape ≡ bracketed s kind number (Got pos q)
   close-other n = rw (← ey, ne-eqb y 41 n)
 
-  module _ (e : y ≡ 41) {end : Bool} (ee : end ≡ eqb (getD s (q + 1) 0) 10) where
-    pub close-on : end ≡ false → Shape ≡ bracketed s kind number (Got pos q)
-    close-on n = rw (← ey, eq-eqb y 41 e, ← ee, n)
+  module _ (e : y ≡ 41) {end : ℕ} (ee : end ≡ endBytes s (q + 1)) where
+    pub close-on : end ≡ 0 → Shape ≡ bracketed s kind number (Got pos q)
+    close-on n = rw (← ey, eq-eqb y 41 e, ← ee, eq-eqb end 0 n)
 
-    pub close-ends : end ≡ true → Op kind number pos (q + 2) ≡ bracketed s kind number (Got pos q)
-    close-ends n = rw (← ey, eq-eqb y 41 e, ← ee, n)
+    pub close-ends : end ≢ 0 → (next : ℕ) → next ≡ q + 1 + end → Op kind number pos next ≡ bracketed s kind number (Got pos q)
+    close-ends n next o = rw (← ey, eq-eqb y 41 e, ← ee, ne-eqb end 0 n, ← o)
 
 -- After a name, by the space x.
 module _ (s : List ℕ) (kind number p x : ℕ) (ex : x ≡ getD s p 0) where

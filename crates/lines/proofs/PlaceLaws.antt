@@ -1,7 +1,7 @@
 -- A line read byte by byte from a place on is the first line of the text from there on.
 use Prim.Native.Nat.{ℕ, zero, suc, _+_, _-_, _*_, _≤_, _<_}
 use mathlib.Core.Path.{_≡_, refl, sym, ap, subst, _∙_}
-use mathlib.Core.Bool.{Bool, true, false, not, cond, false≢true}
+use mathlib.Core.Bool.{Bool, true, false, _&&_, not, cond, false≢true}
 use mathlib.Core.List.{List, [], _∷_, _++_}
 use mathlib.Core.Logic.{_≢_}
 use native.Mathlib.Omega.{arith}
@@ -10,17 +10,17 @@ use lib.ListN.{length, getD, drop, length-append, length-drop, drop-of-length-le
 use lib.Seq.{getD-drop, drop-drop, drop-cons, drop-append-add}
 use borrow.Author.Tests.{eqb-true, eqb-false, ne-eqb}
 use Rattle.rules.specs.Plans as plans
-use Rattle.rules.specs.Plans.{note, oper, other, isDigit, read, unread, more, number, ending, position, space, named, letter, lineOf, leftover, linesOf}
+use Rattle.rules.specs.Plans.{note, oper, other, isDigit, read, unread, more, number, atEnd, ending, position, space, named, letter, lineOf, leftover, linesOf}
 use Rattle.laws.proofs.TestLaws.{and-l, and-r, and-i}
 use Rattle.laws.proofs.PlanLaws.{no-more, noFeed, not-feed, no-feed-at, by-feed, fed, unfed}
 use Rattle.lines.specs.declared.Digits.{Digits}
 use Rattle.lines.specs.declared.Digits.the-variants.{Got, No}
 use Rattle.lines.specs.declared.Line.{Line}
 use Rattle.lines.specs.declared.Line.the-variants.{Op, Comment, Shape}
-use Rattle.lines.specs.Places.{shortestLine, smallAt, bracketed, positioned, kindOf, operatorAt, feedAt, lineAt}
+use Rattle.lines.specs.Places.{shortestLine, smallAt, endBytes, bracketed, positioned, kindOf, operatorAt, feedAt, lineAt}
 use Rattle.laws.specs.Steps.{kindStep, kindOperator}
 use Rattle.lines.specs.Lines.{Fed, Whole, IsLine}
-use Rattle.lines.proofs.LineLaws.{small-none, small-one, small-zero, small-two, small-three, line-kind, after-kind, at-operator, at-other, at-comment}
+use Rattle.lines.proofs.LineLaws.{small-none, small-one, small-zero, small-two, small-three, end-feed, end-none, end-both, close-other, close-on, close-ends, line-kind, after-kind, at-operator, at-other, at-comment}
 
 -- The bytes from p on: cs, a line feed, rest.
 abbrev Ahead : List ℕ → List ℕ → ℕ → List ℕ → Type 0
@@ -47,9 +47,9 @@ module _ (s rest : List ℕ) (p : ℕ) where
   step-on : (c : ℕ) (cs : List ℕ) → Ahead s rest p (c ∷ cs) → (q : ℕ) → q ≡ p + 1 → Ahead s rest q cs
   step-on c cs h q e = ap (λ (n : ℕ). drop n s) e ∙ sym (drop-drop 1 p s) ∙ ap (λ (ds : List ℕ). drop 1 ds) h
 
-  rest-at : (cs : List ℕ) → Ahead s rest p cs → drop (p + length cs + 1) s ≡ rest
-  rest-at cs h =
-      let e : p + length cs + 1 ≡ p + (length cs + 1) = omega arith in
+  rest-at : (cs : List ℕ) → Ahead s rest p cs → (q : ℕ) → q ≡ p + length cs + 1 → drop q s ≡ rest
+  rest-at cs h q o =
+      let e : q ≡ p + (length cs + 1) = omega arith in
       ap (λ (n : ℕ). drop n s) e ∙ sym (drop-drop (length cs + 1) p s) ∙ ap (λ (ds : List ℕ). drop (length cs + 1) ds) h
       ∙ drop-append-add cs (10 ∷ rest) 1
 
@@ -139,45 +139,73 @@ agreed : (s rest : List ℕ) (at : ℕ) {c d : Line} {l m : plans.Line} → c �
 agreed s rest at {c} {d} {l} {m} f g h =
     subst (λ (w : plans.Line). Agrees s rest at d w) g (subst (λ (w : Line). Agrees s rest at w l) f h)
 
+-- The bytes of the line's end at a place, where the document has it ended there.
+data Ends (s rest : List ℕ) (p : ℕ) : Bool → Type 0 where
+  ended-by : (n : ℕ) → endBytes s p ≡ suc n → drop (p + suc n) s ≡ rest → p + suc n ≤ length s → Ends s rest p true
+  no-end : endBytes s p ≡ 0 → Ends s rest p false
+
+module _ (s rest : List ℕ) (p : ℕ) where
+  -- A test of the byte at a place is one of the line's first byte.
+  tested : (cs : List ℕ) → Ahead s rest p cs → (b : ℕ) {x : Bool} → eqb (first cs) b ≡ x → x ≡ eqb (getD s p 0) b
+  tested cs h b e = sym e ∙ ap (λ (c : ℕ). eqb c b) (byte-at s rest p cs h)
+
+  other-byte : (c : ℕ) (cs : List ℕ) → Ahead s rest p (c ∷ cs) → T (noFeed (c ∷ cs)) → false ≡ eqb (getD s p 0) 10
+  other-byte c cs h n = tested (c ∷ cs) h 10 (ne-eqb c 10 (not-feed c (and-l (not (eqb c 10)) (noFeed cs) n)))
+
+-- A line's end at a place, and what is left of the line there.
+end-read : (s rest : List ℕ) (p : ℕ) (cs : List ℕ) → Ahead s rest p cs → T (noFeed cs) → Ends s rest p (atEnd cs)
+end-read s rest p [] h n =
+    ended-by 0 (sym (end-feed s p (tested s rest p [] h 10 refl) refl)) (rest-at s rest p [] h (p + 1) (omega arith)) (omega (arith, feed-inside s rest p [] h))
+end-read s rest p (c ∷ []) h n = go (eqb c 13) refl
+  where
+    on : Ahead s rest (p + 1) []
+    on = step-on s rest p c [] h (p + 1) refl
+
+    both : {x : Bool} → eqb c 13 ≡ x → (x && true) ≡ (eqb (getD s p 0) 13 && eqb (getD s (p + 1) 0) 10)
+    both e = λ i. tested s rest p (c ∷ []) h 13 e i && tested s rest (p + 1) [] on 10 {x = true} refl i
+
+    go : (x : Bool) → eqb c 13 ≡ x → Ends s rest p x
+    go true e =
+        ended-by 1 (sym (end-both s p (other-byte s rest p c [] h n) refl (both e) refl)) (rest-at s rest p (c ∷ []) h (p + 2) (omega arith))
+        (omega (arith, feed-inside s rest p (c ∷ []) h))
+    go false e = no-end (sym (end-none s p (other-byte s rest p c [] h n) refl (both e) refl))
+end-read s rest p (c ∷ d ∷ cs) h n = no-end (sym (end-none s p (other-byte s rest p c (d ∷ cs) h n) refl both refl))
+  where
+    none : (x : Bool) → false ≡ (x && false)
+    none true = refl
+    none false = refl
+
+    both : false ≡ (eqb (getD s p 0) 13 && eqb (getD s (p + 1) 0) 10)
+    both =
+        none (eqb (getD s p 0) 13)
+        ∙ ap (λ (x : Bool). eqb (getD s p 0) 13 && x)
+        (other-byte s rest (p + 1) d cs (step-on s rest p c (d ∷ cs) h (p + 1) refl) (and-r (not (eqb c 10)) (noFeed (d ∷ cs)) n))
+
 module _ (s rest : List ℕ) (at kind : ℕ) (k : kind ≤ 1) where
   -- The bytes after a position.
   bracket-read : (number i q : ℕ) (cs : List ℕ) → at + 5 ≤ q → Ahead s rest q cs → T (noFeed cs)
       → Agrees s rest at (bracketed s kind number (Got i q)) (ending (kindStep kind number) i cs)
-  bracket-read number i q [] lq h n = agreed s rest at (rw (← byte-at s rest q [] h)) refl shapes
-  bracket-read number i q (c ∷ []) lq h n = go (eqb c 41) refl
+  bracket-read number i q [] lq h n = agreed s rest at (close-other s kind number i q 10 (byte-at s rest q [] h) (λ e. omega arith)) refl shapes
+  bracket-read number i q (c ∷ cs) lq h n = go (eqb c 41) refl
     where
-      on : Ahead s rest (q + 1) []
-      on = step-on s rest q c [] h (q + 1) refl
+      byte : c ≡ getD s q 0
+      byte = byte-at s rest q (c ∷ cs) h
 
-      beyond : drop (q + 2) s ≡ rest
-      beyond = let o : q + 2 ≡ q + 1 + 0 + 1 = omega arith in ap (λ (m : ℕ). drop m s) o ∙ rest-at s rest (q + 1) [] on
+      by-end : eqb c 41 ≡ true → {x : Bool} → atEnd cs ≡ x → Ends s rest (q + 1) x
+          → Agrees s rest at (bracketed s kind number (Got i q)) (ending (kindStep kind number) i (c ∷ cs))
+      by-end e a (ended-by m g b w) =
+          agreed s rest at (close-ends s kind number i q c byte (eqb-true c 41 e) (sym g) (λ z. omega arith) _ refl) (rw (e, a))
+          (operators kind number i (q + 1 + suc m) b (omega arith) w k)
+      by-end e a (no-end g) = agreed s rest at (close-on s kind number i q c byte (eqb-true c 41 e) (sym g) refl) (rw (e, a)) shapes
 
-      go : (x : Bool) → eqb c 41 ≡ x → Agrees s rest at (bracketed s kind number (Got i q)) (ending (kindStep kind number) i (c ∷ []))
-      go true e =
-          agreed s rest at
-          (rw (← byte-at s rest q (c ∷ []) h, e, ← byte-at s rest (q + 1) [] on))
-          (rw e)
-          (operators kind number i (q + 2) beyond (omega arith) (omega (arith, feed-inside s rest (q + 1) [] on)) k)
-      go false e = agreed s rest at (rw (← byte-at s rest q (c ∷ []) h, e)) (rw e) shapes
-  bracket-read number i q (c ∷ d ∷ cs) lq h n = go (eqb c 41) refl
-    where
-      on : Ahead s rest (q + 1) (d ∷ cs)
-      on = step-on s rest q c (d ∷ cs) h (q + 1) refl
-
-      other-byte : d ≢ 10
-      other-byte = not-feed d (and-l (not (eqb d 10)) (noFeed cs) (and-r (not (eqb c 10)) (noFeed (d ∷ cs)) n))
-
-      go : (x : Bool) → eqb c 41 ≡ x → Agrees s rest at (bracketed s kind number (Got i q)) other
-      go true e =
-          agreed s rest at
-          (rw (← byte-at s rest q (c ∷ d ∷ cs) h, e, ← byte-at s rest (q + 1) (d ∷ cs) on, ne-eqb d 10 other-byte)) refl shapes
-      go false e = agreed s rest at (rw (← byte-at s rest q (c ∷ d ∷ cs) h, e)) refl shapes
+      go : (x : Bool) → eqb c 41 ≡ x → Agrees s rest at (bracketed s kind number (Got i q)) (ending (kindStep kind number) i (c ∷ cs))
+      go true e = by-end e refl (end-read s rest (q + 1) cs (step-on s rest q c cs h (q + 1) refl) (and-r (not (eqb c 10)) (noFeed cs) n))
+      go false e = agreed s rest at (close-other s kind number i q c byte (eqb-false c 41 e)) (rw e) shapes
 
   position-read : (number p : ℕ) {d : Digits} {e : plans.Digits} → at + 4 ≤ p → Alike s rest p d e
       → Agrees s rest at (bracketed s kind number d) (position (kindStep kind number) e)
   position-read number p lp neither = shapes
-  position-read number p lp (zero-led d [] h) = rw (ne-eqb d 41 (not-digit d 41 h refl)) shapes
-  position-read number p lp (zero-led d (b ∷ cs) h) = shapes
+  position-read number p lp (zero-led d cs h) = rw (ne-eqb d 41 (not-digit d 41 h refl)) shapes
   position-read number p lp (both i q cs lq h n) = bracket-read number i q cs (omega arith) h n
 
   space-read : (number q : ℕ) (cs : List ℕ) → at + 3 ≤ q → Ahead s rest q cs → T (noFeed cs)
@@ -244,7 +272,7 @@ module _ (s rest : List ℕ) (at : ℕ) where
           agreed s rest at
           (at-comment s at c byte (λ z. omega (arith, eqb-true c 59 e)) (eqb-true c 59 e) (at + length (c ∷ cs)) feed)
           (rw e)
-          (comments (at + length (c ∷ cs) + 1) (rest-at s rest at (c ∷ cs) h) (omega arith) (omega (arith, inside)))
+          (comments (at + length (c ∷ cs) + 1) (rest-at s rest at (c ∷ cs) h _ refl) (omega arith) (omega (arith, inside)))
       go false e true f =
           agreed s rest at (at-operator s at c byte (eqb-true c 40 f)) (rw (e, f))
           (operator-read s rest at cs (step-on s rest at c cs h (at + 1) refl) (and-r (not (eqb c 10)) (noFeed cs) n))

@@ -1,5 +1,5 @@
 -- One line of a plan text, byte by byte from a place on. A byte past the end reads as 0.
-use mathlib.Core.Bool.{cond}
+use mathlib.Core.Bool.{_&&_, cond}
 use mathlib.Core.List.{List, [], _∷_}
 use Prim.Native.Nat.{ℕ, suc, _+_, _-_, _*_}
 use lib.Dec.{ltb, eqb}
@@ -26,10 +26,15 @@ smallAt s at =
     (Got (getD s at 0 - 48) (at + 1)))
     No
 
--- A closing bracket and a line feed.
+-- How many bytes end an operator's line at a place: one line feed, or a carriage return and a line feed; 0 where neither stands there.
+unfoldable pub endBytes : List ℕ → ℕ → ℕ
+endBytes s at = cond (eqb (getD s at 0) 10) 1 (cond (eqb (getD s at 0) 13 && eqb (getD s (at + 1) 0) 10) 2 0)
+
+-- A closing bracket and the line's end.
 abbrev pub bracketed : List ℕ → ℕ → ℕ → Digits → Line
 bracketed s kind number No = Shape
-bracketed s kind number (Got pos q) = cond (eqb (getD s q 0) 41) (cond (eqb (getD s (q + 1) 0) 10) (Op kind number pos (q + 2)) Shape) Shape
+bracketed s kind number (Got pos q) =
+    cond (eqb (getD s q 0) 41) (cond (eqb (endBytes s (q + 1)) 0) Shape (Op kind number pos (q + 1 + endBytes s (q + 1)))) Shape
 
 abbrev pub positioned : List ℕ → ℕ → Digits → Line
 positioned s kind No = Shape

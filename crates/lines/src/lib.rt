@@ -4,12 +4,16 @@ ghost use Prim.Native.Nat.{_+_, _<_};
 ghost use lib.Dec.{eqb};
 ghost use lib.ListN.{length, getD, drop};
 ghost use Rattle.rules.specs.Plans.{isDigit};
-ghost use Rattle.lines.specs.Places.{smallAt, bracketed, positioned, operatorAt, kindOf, feedAt};
+ghost use Rattle.lines.specs.Places.{smallAt, endBytes, bracketed, positioned, operatorAt, kindOf, feedAt};
 ghost use Rattle.lines.specs.Lines.{Fed, Whole, IsLine};
 ghost use Rattle.lines.specs.declared.Digits.the-variants.{Got};
 
 // `(a0 1)` and its line feed.
 pub const SHORTEST_LINE: usize = 7;
+
+const LINE_FEED: u8 = 10;
+
+const CARRIAGE_RETURN: u8 = 13;
 
 // Kind (0 action, 1 method), number, position and the next place; a comment and the next place; another shape.
 pub enum Line {
@@ -36,12 +40,26 @@ fn is_digit(c: u64) -> bool
     (48 <= c) & (c <= 57)
 }
 
-// Whether the line ends with the byte at a place.
-fn ends(s: &[u8], at: usize) -> bool
+// Whether a place has a byte.
+fn has(s: &[u8], at: usize, byte: u8) -> bool
     requires { ⌜ at < length (now s) ⌝ }
-    ensures { λ r. ⌜ r ≡ eqb (getD (now (s .entry)) at 0) 10 ⌝ }
+    ensures { λ r. ⌜ r ≡ eqb (getD (now (s .entry)) at 0) byte ⌝ }
 {
-    s[at] == 10
+    s[at] == byte
+}
+
+// How many bytes end an operator's line at a place, 0 if none do: the line feed is asked first, and the two bytes of the other end in one comparison.
+fn end_bytes(s: &[u8], at: usize) -> usize
+    requires { ⌜ Fed (now s) at ⌝ }
+    ensures { λ r. ⌜ r ≡ endBytes (now (s .entry)) at ⌝ }
+{
+    if has(s, at, LINE_FEED) {
+        return 1;
+    }
+    match has(s, at, CARRIAGE_RETURN) & has(s, at + 1, LINE_FEED) {
+        true => 2,
+        false => 0,
+    }
 }
 
 // A number of one to three digits.
@@ -89,10 +107,11 @@ fn close(s: &[u8], kind: u64, number: u64, pos: u64, at: usize) -> Line
     if bracket != 41 {
         return Line::Shape;
     }
-    if !ends(s, at + 1) {
-        return Line::Shape;
+    match end_bytes(s, at + 1) {
+        0 => Line::Shape,
+        1 => Line::Op(kind, number, pos, at + 2),
+        _ => Line::Op(kind, number, pos, at + 3),
     }
-    Line::Op(kind, number, pos, at + 2)
 }
 
 // The space and the position, after the name.
@@ -132,7 +151,7 @@ fn feed_from(s: &[u8], at: usize) -> usize
     ensures { λ r. ⌜ (r ≡ at + feedAt (drop at (now (s .entry)))) × (r < length (now (s .entry))) ⌝ }
 {
     let mut i = at;
-    while !ends(s, i) {
+    while !has(s, i, LINE_FEED) {
         i += 1;
     }
     i
@@ -145,7 +164,7 @@ pub fn whole_lines(s: &[u8]) -> usize
     let mut n = s.len();
     while 0 < n {
         let last = n - 1;
-        if ends(s, last) {
+        if has(s, last, LINE_FEED) {
             return n;
         }
         n = last;

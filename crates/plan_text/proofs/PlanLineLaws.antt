@@ -15,8 +15,7 @@ use Rattle.rules.specs.Problems.{nameOf}
 use Rattle.rules.specs.Plans.{textOf, textsOf}
 use Rattle.laws.specs.Steps.{stepAt}
 use Rattle.laws.proofs.StepNumbers.{step-action, step-past}
-use Rattle.theorems.specs.Shapes.{stepNumber, Small}
-use Rattle.theorems.proofs.PlanTexts.{AllSmall}
+use Rattle.theorems.specs.Shapes.{stepNumber, Small, AllSmall}
 use Rattle.trail.specs.Trails.{rowIn, positionIn, operatorIn, marked}
 use Rattle.plan_text.specs.PlanLines.{lineText, EachSmall}
 

@@ -33,11 +33,17 @@ abbrev pub number : List ℕ → Digits
 number [] = unread
 number (c ∷ cs) = cond (isDigit c) (cond (eqb c 48) (read 0 cs) (more 2 (c - 48) cs)) unread
 
+-- C-13: "A line may end either way, each line on its own." Of an operator's line that is read up to its closing bracket, and whose line feed is taken
+-- off: nothing is left, or one carriage return.
+abbrev pub atEnd : List ℕ → Bool
+atEnd [] = true
+atEnd (c ∷ []) = eqb c 13
+atEnd (c ∷ d ∷ cs) = false
+
 -- "`(`, `a` or `m`, a number, one space, a position, `)`, line feed", from its end to its start; the line feed is taken off.
 abbrev pub ending : Step → ℕ → List ℕ → Line
 ending x i [] = other
-ending x i (c ∷ []) = cond (eqb c 41) (oper (record { what = x; at = i })) other
-ending x i (c ∷ d ∷ cs) = other
+ending x i (c ∷ cs) = cond (eqb c 41) (cond (atEnd cs) (oper (record { what = x; at = i })) other) other
 
 abbrev pub position : Step → Digits → Line
 position x unread = other

@@ -23,11 +23,10 @@ use Rattle.laws.proofs.RefusalLaws.{read-valid}
 use Rattle.laws.proofs.TestLaws.{and-l, and-r, and-i}
 use Rattle.laws.proofs.TextLaws.{digits-le}
 use Rattle.theorems.specs.Runs.{Run, TrueHeights}
-use Rattle.theorems.specs.Shapes.{stepNumber}
+use Rattle.theorems.specs.Shapes.{stepNumber, AllSmall}
 use Rattle.theorems.specs.Demand.{Given}
 use Rattle.theorems.proofs.Heights.{emitted-low, low-emitted}
 use Rattle.theorems.proofs.RunLaws.{run-over, run-back}
-use Rattle.theorems.proofs.PlanTexts.{AllSmall}
 use Rattle.theorems.proofs.Demand3.{known-small, accepted-given, accepts, run-accepted}
 use Rattle.sought.specs.Findings.{mostLineBytes, mostFoundBytes, RunWithin, NoRunWithin}
 use Rattle.sought.proofs.OrderLaws.{may-be, one-order}

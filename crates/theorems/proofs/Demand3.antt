@@ -21,9 +21,9 @@ use Rattle.laws.specs.Valid.{Valid}
 use Rattle.laws.proofs.AnswerLaws.{check-passed, after-passed}
 use Rattle.laws.proofs.RefusalLaws.{table-is, form-is, read-valid, opened-is, plan-fits, plan-small, room-fits}
 use Rattle.theorems.specs.Runs.{Run, CompleteRun, TrueHeights}
-use Rattle.theorems.specs.Shapes.{stepNumber}
+use Rattle.theorems.specs.Shapes.{LineEnd, byFeed, textsEnded, stepNumber, AllSmall}
 use Rattle.theorems.specs.Solutions.{Solution, actionsOf, summed}
-use Rattle.theorems.specs.Demand.{Given, GivenForm, Accepted, ListOf, Fitting}
+use Rattle.theorems.specs.Demand.{Given, GivenForm, Accepted, ListOf, Fitting, FittingEnded}
 use Rattle.theorems.specs.StepLists.{stepsOf, Numbered, AllBytes}
 use Rattle.laws.proofs.TestLaws.{and-l, and-r}
 use Rattle.laws.proofs.StepLaws.{bytes-length}
@@ -32,7 +32,7 @@ use Rattle.theorems.proofs.RunLaws.{run-back}
 use Rattle.theorems.proofs.Acceptance.{sound, complete}
 use Rattle.theorems.proofs.OneList.{operators, unique, exists}
 use Rattle.theorems.proofs.SolutionLaws.{solution, costs}
-use Rattle.theorems.proofs.PlanTexts.{AllSmall, lines-of}
+use Rattle.theorems.proofs.PlanTexts.{lines-of, ended-by-feeds}
 use Rattle.theorems.proofs.StepBytes.{bytes-small, read-back}
 
 -- A list of operators, as the lines of a plan.
@@ -40,7 +40,7 @@ opers : (os : List Operator) → opersOf (map oper os) ≡ os
 opers [] = refl
 opers (o ∷ os) = ap (λ (l : List Operator). o ∷ l) (opers os)
 
-opers-shaped : (os : List Operator) → T (shaped (map oper os))
+pub opers-shaped : (os : List Operator) → T (shaped (map oper os))
 opers-shaped [] = tt
 opers-shaped (o ∷ os) = opers-shaped os
 
@@ -169,24 +169,33 @@ module _ {b f : ℕ} {s : List ℕ} {t : Table} (g : Given b f s t) where
         (λ os′ l. sym (unique f t os′ (begin t) (l .heights)) ∙ ap (λ (ys : List Step). operators f t 0 (begin t) ys) (l .expands)),
       )
 
-  -- (c) The text of that list is accepted, with the run's cost, operators and steps.
-  pub run-accepted : (xs : List Step) → CompleteRun b f t xs → (os : List Operator) → ListOf f t xs os → Fitting os
-      → checkPlan b f s (textsOf os) ≡ accepted (totalCost t xs) (length os) (length xs)
-  run-accepted xs r os h l =
-      let q = h .heights in
-      let e = h .expands in
-      let z : CompleteRun b f t (expandAll f t os) = rw e r in
-      checks (textsOf os) l
-      ∙ ap (checkLines b f t) (lines-of os (small b f t table-valid (g .high) os (begin t) (le→leb 1 b (g .low)) q (z .1)))
-      ∙ accepted-lines b f t (g .low) (map oper os) _ _ _
-      (record {
-        shape = opers-shaped os;
-        heights = rw (opers os) q;
-        run = rw (opers os) z;
-        cost = rw (opers os, e);
-        operators = rw (opers os);
-        steps = rw (opers os, e);
-      })
+  -- (c) The text of that list is accepted, with every choice of line ends, with the run's cost, operators and steps.
+  module _ (xs : List Step) (r : CompleteRun b f t xs) (os : List Operator) (h : ListOf f t xs os) where
+    list-lines : (end : ℕ → LineEnd) → linesOf (textsEnded end os) ≡ map oper os
+    list-lines end =
+        let z : CompleteRun b f t (expandAll f t os) = rw (h .expands) r in
+        lines-of end os (small b f t table-valid (g .high) os (begin t) (le→leb 1 b (g .low)) (h .heights) (z .1))
+
+    pub ended-accepted : (end : ℕ → LineEnd) → FittingEnded end os → checkPlan b f s (textsEnded end os) ≡ accepted (totalCost t xs) (length os) (length xs)
+    ended-accepted end l =
+        let e = h .expands in
+        let z : CompleteRun b f t (expandAll f t os) = rw e r in
+        checks (textsEnded end os) l
+        ∙ ap (checkLines b f t) (list-lines end)
+        ∙ accepted-lines b f t (g .low) (map oper os) _ _ _
+        (record {
+          shape = opers-shaped os;
+          heights = rw (opers os) (h .heights);
+          run = rw (opers os) z;
+          cost = rw (opers os, e);
+          operators = rw (opers os);
+          steps = rw (opers os, e);
+        })
+
+    pub run-accepted : Fitting os → checkPlan b f s (textsOf os) ≡ accepted (totalCost t xs) (length os) (length xs)
+    run-accepted l =
+        let e = ended-by-feeds os in
+        sym (ap (checkPlan b f s) e) ∙ ended-accepted (λ _. byFeed) (omega (arith, l, ap length e))
 
   module _ (plan : List ℕ) (l : length plan ≤ mostPlanBytes) (c o k : ℕ) (e : checkPlan b f s plan ≡ accepted c o k) where
     -- Its lines pass the check of lines.
@@ -223,3 +232,11 @@ module _ {b f : ℕ} {s : List ℕ} {t : Table} (g : Given b f s t) where
 
     pub expansion-back : stepsOf (stepBytes (expandAll f t (opersOf (linesOf plan)))) ≡ expandAll f t (opersOf (linesOf plan))
     expansion-back = read-back (expandAll f t (opersOf (linesOf plan))) steps-numbered
+
+  -- (g) Every text of a run's list expands to the bytes of its steps, whatever its line ends.
+  module _ (xs : List Step) (r : CompleteRun b f t xs) (os : List Operator) (h : ListOf f t xs os) (end : ℕ → LineEnd) (l : FittingEnded end os) where
+    pub ended-expands : (size : ℕ) → expandPlan b f s (textsEnded end os) size ≡ roomFor size 0 (stepBytes xs)
+    ended-expands size =
+        let e = ap opersOf (list-lines xs r os h end) ∙ opers os in
+        expansion-is (textsEnded end os) l _ _ _ (ended-accepted xs r os h end l) size
+        ∙ ap (λ (ys : List Step). roomFor size 0 (stepBytes ys)) (ap (expandAll f t) e ∙ h .expands)

@@ -1,5 +1,5 @@
--- The examples of document 01 that are marked P, with U's least bounds as document 02, C-12 has them ("U gives 2 and 1"), and least
--- bounds of tables beside it, from bytes.
+-- The examples of document 01 that are marked P, with U's least bounds as document 02, C-12 has them ("U gives 2 and 1"), plans by their
+-- line ends, and least bounds of tables beside it, from bytes.
 use Prim.Native.Nat.{ℕ}
 use mathlib.Core.Path.{_≡_, refl}
 use mathlib.Core.List.{List, [], _∷_}
@@ -44,6 +44,26 @@ pub examples :
     × (findLeast 1 tableU ≡ answer 1)
 unfolding many groupsBefore groupsValue sound numberAt inRange ranged header readAction readMethod closed decode without joinOne joinFrom joinOf joined positions linesOf checkLines stepBytes planNumber tableRead formRead opened checkPlan expandPlan leastBound findLeast
 examples = (refl, refl, refl, refl, refl, refl, refl, refl, refl, refl, refl, refl, refl, refl, refl)
+
+-- C-13: T's plan with both line ends, in every mixture; a carriage return where it is of no line's end; comments, whose content it is.
+pub ends :
+    (checkPlan 1 0 tableT (bytes "(m0 1)\r\n(a0 1)\r\n") ≡ accepted 3 2 2)
+    × (checkPlan 1 0 tableT (bytes "(m0 1)\r\n(a0 1)\n") ≡ accepted 3 2 2)
+    × (checkPlan 1 0 tableT (bytes "(m0 1)\n(a0 1)\r\n") ≡ accepted 3 2 2)
+    × (expandPlan 1 0 tableT (bytes "(m0 1)\r\n(a0 1)\n") 4 ≡ answer (0 ∷ 4 ∷ 0 ∷ 0 ∷ []))
+    × (checkPlan 1 1 tableT (bytes "(m0 1)\r\n") ≡ accepted 3 1 2)
+    × (checkPlan 1 0 tableT (bytes "(m0 1)\r\n") ≡ refusal 14 1)
+    × (checkPlan 1 0 tableT (bytes "(m0 1)\r\n\r\n(a0 1)\r\n") ≡ refusal 11 2)
+    × (checkPlan 1 0 tableT (bytes "(m0 1)\n(a0 1)\r\r\n") ≡ refusal 11 2)
+    × (checkPlan 1 0 tableT (bytes "(m0 1)\r\n(a0 1\r)\r\n") ≡ refusal 11 2)
+    × (checkPlan 1 0 tableT (bytes "(m0 1)\r\n(a0 1)\r") ≡ refusal 11 2)
+    × (checkPlan 1 0 tableT (bytes "(m0 1)\r(a0 1)\n") ≡ refusal 11 1)
+    × (checkPlan 1 0 tableT (bytes "\r(m0 1)\n(a0 1)\n") ≡ refusal 11 1)
+    × (checkPlan 1 0 tableT (bytes ";\r\n(m0 1)\r\n;\r(a0 1)\r\r\n(a0 1)\n") ≡ accepted 3 2 2)
+    × (checkPlan 1 0 tableT (bytes ";\r(m0 1)\n(a0 1)\n") ≡ refusal 13 2)
+    × (checkPlan 1 0 tableT (bytes "(m0 1)\n(a0 1)\n;\r") ≡ refusal 11 3)
+unfolding many groupsBefore groupsValue sound numberAt inRange ranged header readAction readMethod closed decode without joinOne joinFrom joinOf joined positions linesOf checkLines stepBytes planNumber tableRead formRead opened checkPlan expandPlan
+ends = (refl, refl, refl, refl, refl, refl, refl, refl, refl, refl, refl, refl, refl, refl, refl)
 
 -- T with a method of eight actions: the forms lie no further apart on any table.
 abbrev tableV : List ℕ

@@ -8,6 +8,7 @@ pub mod PlanTexts
 pub mod LineShapes
 pub mod StepBytes
 pub mod Demand3
+pub mod LineEnds
 pub mod Expansion
 pub mod RefusalNumbers
 pub mod Completion

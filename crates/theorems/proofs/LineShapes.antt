@@ -11,11 +11,11 @@ use Rattle.basics.specs.Texts.{digits, ThreeDigits}
 use Rattle.rules.specs.Progression.{Step, act, mth}
 use Rattle.rules.specs.Operators.{Operator}
 use Rattle.rules.specs.Problems.{nameOf}
-use Rattle.rules.specs.Plans.{Line, note, oper, other, isDigit, Digits, read, unread, more, number, ending, position, space, named, letter, lineOf, leftover, linesFrom, linesOf, shaped}
+use Rattle.rules.specs.Plans.{Line, note, oper, other, isDigit, Digits, read, unread, more, number, atEnd, ending, position, space, named, letter, lineOf, leftover, linesFrom, linesOf, shaped}
 use Rattle.laws.proofs.TestLaws.{and-l, and-r, and-i}
 use Rattle.laws.proofs.TextLaws.{digits-one, digits-more}
 use Rattle.laws.proofs.PlanLaws.{noFeed, fed, unfed, by-feed}
-use Rattle.theorems.specs.Shapes.{stepNumber, TextOf, Comment, LineIs, NoFeed, InShape, TextIs}
+use Rattle.theorems.specs.Shapes.{stepNumber, LineEnd, byFeed, byReturn, beforeFeed, TextOf, Comment, LineIs, NoFeed, InShape, TextIs}
 use Rattle.theorems.proofs.PlanTexts.{not-eqb, text-of, line-of}
 
 -- A test that came to a value, by how it came out.
@@ -104,16 +104,27 @@ note-oper e = let z : _≡_ {A = ℕ} 0 1 = cc in absurd (omega arith)
 -- The parts of an operator's line, from its end to its start.
 record Ended (x : Step) (cs : List ℕ) (o : Operator) : Type 0 where
   what : x ≡ o .what
-  text : cs ≡ digits (o .at) ++ (41 ∷ [])
+  end : LineEnd
+  text : cs ≡ digits (o .at) ++ (41 ∷ beforeFeed end)
   size : ThreeDigits (o .at)
 
-ending-is : (x : Step) (i : ℕ) (cs : List ℕ) (o : Operator) → ending x i cs ≡ oper o → (record { what = x; at = i } ≡ o) × (cs ≡ 41 ∷ [])
+at-end-is : (cs : List ℕ) → T (atEnd cs) → (end : LineEnd) × (cs ≡ beforeFeed end)
+at-end-is [] h = (byFeed, refl)
+at-end-is (c ∷ []) h = (byReturn, ap (λ (n : ℕ). n ∷ []) (eqb→eq c 13 h))
+at-end-is (c ∷ d ∷ cs) h = absurd h
+
+ending-is : (x : Step) (i : ℕ) (cs : List ℕ) (o : Operator) → ending x i cs ≡ oper o
+    → (record { what = x; at = i } ≡ o) × ((end : LineEnd) × (cs ≡ 41 ∷ beforeFeed end))
 ending-is x i [] o e = other-oper e
-ending-is x i (c ∷ []) o e =
+ending-is x i (c ∷ cs) o e =
     by-test (eqb c 41) _ _ e
-    (λ h p. let q : record { what = x; at = i } ≡ o = cc in (q, ap (λ (n : ℕ). n ∷ []) (eqb→eq c 41 h)))
+    (λ h p. by-test (atEnd cs) _ _ p
+    (λ a r.
+    let q : record { what = x; at = i } ≡ o = cc in
+    let (end, z) = at-end-is cs a in
+    (q, (end, λ j. eqb→eq c 41 h j ∷ z j)))
+    (λ a r. other-oper r))
     (λ h p. other-oper p)
-ending-is x i (c ∷ d ∷ cs) o e = other-oper e
 
 position-is : (x : Step) (cs : List ℕ) (o : Operator) → position x (number cs) ≡ oper o → Ended x cs o
 position-is x cs o e = go (number cs) refl e
@@ -122,11 +133,12 @@ position-is x cs o e = go (number cs) refl e
     go unread n e = other-oper e
     go (read i rest) n e =
         let q = number-read cs i rest n in
-        let r = ending-is x i rest o e in
+        let (r, (end, z)) = ending-is x i rest o e in
         record {
-          what = ap (λ (o : Operator). o .what) (r .0);
-          text = q .passed ∙ (λ j. digits (r .0 j .at) ++ r .1 j);
-          size = omega (arith, q .size, ap (λ (o : Operator). o .at) (r .0));
+          what = ap (λ (o : Operator). o .what) r;
+          end = end;
+          text = q .passed ∙ (λ j. digits (r j .at) ++ z j);
+          size = omega (arith, q .size, ap (λ (o : Operator). o .at) r);
         }
 
 space-is : (x : Step) (cs : List ℕ) (o : Operator) → space x cs ≡ oper o → (ds : List ℕ) × (cs ≡ 32 ∷ ds) × Ended x ds o
@@ -146,13 +158,14 @@ module _ (letter : ℕ) (kind : ℕ → Step) (name : (k : ℕ) → nameOf (kind
       go (read k rest) n e =
           let q = number-read cs k rest n in
           let (ds, r, z) = space-is (kind k) rest o e in
-          let before : letter ∷ cs ≡ nameOf (o .what) ++ (32 ∷ (digits (o .at) ++ (41 ∷ []))) =
+          let before : letter ∷ cs ≡ nameOf (o .what) ++ (32 ∷ (digits (o .at) ++ (41 ∷ beforeFeed (z .end)))) =
           ap (λ (l : List ℕ). letter ∷ l) (q .passed)
           ∙ ap (λ (l : List ℕ). l ++ rest) (sym (name k))
           ∙ (λ i. nameOf (z .what i) ++ r i)
           ∙ ap (λ (l : List ℕ). nameOf (o .what) ++ (32 ∷ l)) (z .text) in
           record {
-            text = ap (λ (l : List ℕ). 40 ∷ l) before ∙ sym (text-of o);
+            end = z .end;
+            text = ap (λ (l : List ℕ). 40 ∷ l) before ∙ sym (text-of o (beforeFeed (z .end)));
             small = record { number = omega (arith, q .size, is k, ap stepNumber (z .what)); position = z .size };
           }
 
@@ -186,8 +199,7 @@ no-note-test false a b h k = k
 
 no-note-ending : (x : Step) (i : ℕ) (cs : List ℕ) → NoNote (ending x i cs)
 no-note-ending x i [] = tt
-no-note-ending x i (c ∷ []) = no-note-test (eqb c 41) _ _ tt tt
-no-note-ending x i (c ∷ d ∷ cs) = tt
+no-note-ending x i (c ∷ cs) = no-note-test (eqb c 41) _ _ (no-note-test (atEnd cs) _ _ tt tt) tt
 
 no-note-position : (x : Step) (d : Digits) → NoNote (position x d)
 no-note-position x unread = tt
@@ -219,7 +231,7 @@ module _ (cs : List ℕ) where
   comment-line h = ap lineOf (h .starts)
 
   text-line : (o : Operator) → TextOf o cs → lineOf cs ≡ oper o
-  text-line o h = ap lineOf (h .text) ∙ line-of o (h .small)
+  text-line o h = ap lineOf (h .text) ∙ line-of o (h .small) (h .end)
 
   line-shape : (l : Line) → InShape cs l → lineOf cs ≡ l
   line-shape note h = comment-line h

@@ -2,7 +2,7 @@
 use Prim.Native.Nat.{ℕ, zero, suc, _+_, _-_, _*_, _/_, _%_, _≤_, _<_}
 use mathlib.Core.Path.{_≡_, refl, sym, ap, subst, _∙_}
 use mathlib.Core.Bool.{Bool, true, false, not, cond}
-use mathlib.Core.List.{List, [], _∷_, _++_, map, append-assoc}
+use mathlib.Core.List.{List, [], _∷_, _++_, map, append-assoc, append-nil}
 use native.Mathlib.Omega.{arith}
 use borrow.Author.Tests.{ne-eqb, lt-ltb, le-ltb, ltb-true, ltb-false}
 use lib.Dec.{T, eqb, leb, ltb, le→leb}
@@ -10,8 +10,8 @@ use Rattle.rules.specs.Progression.{Step, act, mth}
 use Rattle.rules.specs.Operators.{Operator}
 use Rattle.basics.specs.Texts.{bytes, digit, digitsF, digits, ThreeDigits}
 use Rattle.rules.specs.Problems.{nameOf}
-use Rattle.rules.specs.Plans.{oper, isDigit, read, more, number, position, named, lineOf, linesOf, textOf, textsOf}
-use Rattle.theorems.specs.Shapes.{stepNumber, Small}
+use Rattle.rules.specs.Plans.{oper, isDigit, read, more, number, ending, position, named, lineOf, linesOf, textOf, textsOf}
+use Rattle.theorems.specs.Shapes.{stepNumber, Small, AllSmall, LineEnd, byFeed, byReturn, beforeFeed, textsEnded}
 use Rattle.laws.proofs.TestLaws.{and-l, and-r, and-i, cond-true, cond-false}
 use Rattle.laws.proofs.PlanLaws.{no-more, noFeed, fed}
 
@@ -89,19 +89,27 @@ number-digits (suc n) c cs l h = go (ltb (suc n) 10) refl (ltb (suc n) 100) refl
         ∙ one-more 0 (m / 10 / 10 * 10 + m / 10 % 10) (m % 10) (c ∷ cs) (omega arith)
         ∙ ap (λ (k : ℕ). read k (c ∷ cs)) (omega arith)
 
-regrouped : (x d : List ℕ) → bytes "(" ++ (x ++ (32 ∷ d)) ++ bytes ")" ≡ 40 ∷ (x ++ (32 ∷ (d ++ (41 ∷ []))))
-regrouped x d = simp append-assoc
+regrouped : (x d end : List ℕ) → (bytes "(" ++ (x ++ (32 ∷ d)) ++ bytes ")") ++ end ≡ 40 ∷ (x ++ (32 ∷ (d ++ (41 ∷ end))))
+regrouped x d end = simp append-assoc
 
-pub text-of : (o : Operator) → textOf o ≡ 40 ∷ (nameOf (o .what) ++ (32 ∷ (digits (o .at) ++ (41 ∷ []))))
-text-of o = regrouped (nameOf (o .what)) (digits (o .at))
+-- An operator's line: its text and what follows it.
+pub text-of : (o : Operator) (end : List ℕ) → textOf o ++ end ≡ 40 ∷ (nameOf (o .what) ++ (32 ∷ (digits (o .at) ++ (41 ∷ end))))
+text-of o end = regrouped (nameOf (o .what)) (digits (o .at)) end
 
-pub line-of : (o : Operator) → Small o → lineOf (textOf o) ≡ oper o
-line-of o h = ap lineOf (text-of o) ∙ go (o .what) (o .at) (h .number) (h .position)
+pub line-of : (o : Operator) → Small o → (end : LineEnd) → lineOf (textOf o ++ beforeFeed end) ≡ oper o
+line-of o h end = ap lineOf (text-of o (beforeFeed end)) ∙ go (o .what) (o .at) (h .number) (h .position)
   where
+    ends : (x : Step) (i : ℕ) (end : LineEnd) → ending x i (41 ∷ beforeFeed end) ≡ oper (record { what = x; at = i })
+    ends x i byFeed = refl
+    ends x i byReturn = refl
+
+    after : (x : Step) (i : ℕ) → ThreeDigits i → position x (number (digits i ++ (41 ∷ beforeFeed end))) ≡ oper (record { what = x; at = i })
+    after x i h = ap (position x) (number-digits i 41 (beforeFeed end) h tt) ∙ ends x i end
+
     go : (x : Step) (i : ℕ) → ThreeDigits (stepNumber x) → ThreeDigits i
-        → lineOf (40 ∷ (nameOf x ++ (32 ∷ (digits i ++ (41 ∷ []))))) ≡ oper (record { what = x; at = i })
-    go (act k) i l h = ap (named act) (number-digits k 32 _ l tt) ∙ ap (position (act k)) (number-digits i 41 [] h tt)
-    go (mth k) i l h = ap (named mth) (number-digits k 32 _ l tt) ∙ ap (position (mth k)) (number-digits i 41 [] h tt)
+        → lineOf (40 ∷ (nameOf x ++ (32 ∷ (digits i ++ (41 ∷ beforeFeed end))))) ≡ oper (record { what = x; at = i })
+    go (act k) i l h = ap (named act) (number-digits k 32 _ l tt) ∙ after (act k) i h
+    go (mth k) i l h = ap (named mth) (number-digits k 32 _ l tt) ∙ after (mth k) i h
 
 noFeed-append : (xs ys : List ℕ) → T (noFeed xs) → T (noFeed ys) → T (noFeed (xs ++ ys))
 noFeed-append [] ys h k = k
@@ -125,20 +133,30 @@ noFeed-digits : (n : ℕ) → T (noFeed (digits n))
 unfolding digits
 noFeed-digits n = noFeed-digitsF n n
 
-pub noFeed-text : (o : Operator) → T (noFeed (textOf o))
-noFeed-text o =
-    subst (λ (l : List ℕ). T (noFeed l)) (sym (text-of o))
-    (noFeed-append (nameOf (o .what)) _ (go (o .what)) (noFeed-append (digits (o .at)) (41 ∷ []) (noFeed-digits (o .at)) tt))
+noFeed-text : (o : Operator) (end : LineEnd) → T (noFeed (textOf o ++ beforeFeed end))
+noFeed-text o end =
+    subst (λ (l : List ℕ). T (noFeed l)) (sym (text-of o (beforeFeed end)))
+    (noFeed-append (nameOf (o .what)) _ (go (o .what)) (noFeed-append (digits (o .at)) (41 ∷ beforeFeed end) (noFeed-digits (o .at)) (ends end)))
   where
     go : (x : Step) → T (noFeed (nameOf x))
     go (act k) = noFeed-digits k
     go (mth k) = noFeed-digits k
 
-abbrev pub AllSmall : List Operator → Type 0
-AllSmall [] = Unit {0}
-AllSmall (o ∷ os) = Small o × AllSmall os
+    ends : (end : LineEnd) → T (noFeed (beforeFeed end))
+    ends byFeed = tt
+    ends byReturn = tt
 
-pub lines-of : (os : List Operator) → AllSmall os → linesOf (textsOf os) ≡ map oper os
-unfolding linesOf textsOf
-lines-of [] h = refl
-lines-of (o ∷ os) h = fed [] (textOf o) (textsOf os) (noFeed-text o) ∙ (λ i. line-of o (h .0) i ∷ lines-of os (h .1) i)
+-- With every choice of line ends.
+pub lines-of : (end : ℕ → LineEnd) (os : List Operator) → AllSmall os → linesOf (textsEnded end os) ≡ map oper os
+unfolding linesOf textsEnded
+lines-of end [] h = refl
+lines-of end (o ∷ os) h =
+    let later : ℕ → LineEnd = λ i. end (suc i) in
+    fed [] (textOf o ++ beforeFeed (end 0)) (textsEnded later os) (noFeed-text o (end 0))
+    ∙ (λ i. line-of o (h .0) (end 0) i ∷ lines-of later os (h .1) i)
+
+-- With line feeds alone it is the text that is written.
+pub ended-by-feeds : (os : List Operator) → textsEnded (λ _. byFeed) os ≡ textsOf os
+unfolding textsEnded textsOf
+ended-by-feeds [] = refl
+ended-by-feeds (o ∷ os) = λ i. append-nil (textOf o) i ++ (10 ∷ ended-by-feeds os i)

@@ -12,6 +12,7 @@ use Rattle.rules.specs.Operators.{Operator, expandAll}
 use Rattle.rules.specs.Plans.{Line, linesOf, opersOf, shaped, textsOf}
 use Rattle.rules.specs.Refusals.{readOf}
 use Rattle.theorems.specs.Runs.{CompleteRun, TrueHeights}
+use Rattle.theorems.specs.Shapes.{LineEnd, textsEnded}
 
 -- Bound and form are in range, and the bytes s are the table t.
 pub record Given (b f : ℕ) (s : List ℕ) (t : Table) : Type 0 where
@@ -54,6 +55,9 @@ pub record ListOf (f : ℕ) (t : Table) (xs : List Step) (os : List Operator) : 
   pub heights : TrueHeights f t (begin t) os
   pub expands : expandAll f t os ≡ xs
 
--- "its text fits that size".
+-- "its text fits that size", with line feeds alone and with any choice of line ends.
 abbrev pub Fitting : List Operator → Type 0
 Fitting os = length (textsOf os) ≤ mostPlanBytes
+
+abbrev pub FittingEnded : (ℕ → LineEnd) → List Operator → Type 0
+FittingEnded end os = length (textsEnded end os) ≤ mostPlanBytes

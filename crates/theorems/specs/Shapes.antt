@@ -1,5 +1,5 @@
 -- Which bytes are which line of a plan, said of the bytes and not of how they are read.
-use Prim.Native.Nat.{ℕ}
+use Prim.Native.Nat.{ℕ, suc}
 use mathlib.Core.Path.{_≡_}
 use mathlib.Core.List.{List, [], _∷_, _++_}
 use Rattle.basics.specs.Texts.{ThreeDigits}
@@ -16,9 +16,24 @@ pub record Small (o : Operator) : Type 0 where
   pub number : ThreeDigits (stepNumber (o .what))
   pub position : ThreeDigits (o .at)
 
--- "`(`, `a` or `m`, a number, one space, a position, `)`", of which the line feed is taken off.
+abbrev pub AllSmall : List Operator → Type 0
+AllSmall [] = Unit {0}
+AllSmall (o ∷ os) = Small o × AllSmall os
+
+-- C-13: "A line may end either way": with a line feed, or with a carriage return and a line feed.
+pub data LineEnd : Type 0 where
+  byFeed : LineEnd
+  byReturn : LineEnd
+
+-- What of a line's end stands before its line feed.
+abbrev pub beforeFeed : LineEnd → List ℕ
+beforeFeed byFeed = []
+beforeFeed byReturn = 13 ∷ []
+
+-- "`(`, `a` or `m`, a number, one space, a position, `)`", and the line's end, of which the line feed is taken off.
 pub record TextOf (o : Operator) (cs : List ℕ) : Type 0 where
-  pub text : cs ≡ textOf o
+  pub end : LineEnd
+  pub text : cs ≡ textOf o ++ beforeFeed end
   pub small : Small o
 
 -- "A line that starts with `;`".
@@ -51,3 +66,14 @@ pub record Split (ds cs rest : List ℕ) : Type 0 where
 abbrev pub TextIs : List ℕ → List Line → Type 0
 TextIs ds [] = ds ≡ []
 TextIs ds (l ∷ ls) = (cs : List ℕ) × (rest : List ℕ) × Split ds cs rest × InShape cs l × TextIs rest ls
+
+-- C-13: "each line on its own": the text of a list of operators, with a choice of line ends, line by line from 0.
+unfoldable pub textsEnded : (ℕ → LineEnd) → List Operator → List ℕ
+textsEnded end [] = []
+textsEnded end (o ∷ os) = (textOf o ++ beforeFeed (end 0)) ++ (10 ∷ textsEnded (λ i. end (suc i)) os)
+
+-- A text of operators alone: what it is for some choice of line ends.
+pub record OperatorsText (os : List Operator) (ds : List ℕ) : Type 0 where
+  pub end : ℕ → LineEnd
+  pub text : ds ≡ textsEnded end os
+  pub small : AllSmall os

@@ -18,8 +18,8 @@ abbrev μ-loop : tie.MeasureT-loop
 loop-holds : tie.Need-loop-holds Inv-loop μ-loop
 loop-holds c = (c .before .pre, refl)
 
-ends-requires : tie.Need-ends-requires Inv-loop μ-loop
-ends-requires c κs = fed-inside (c .loop .inv .0)
+has-requires : tie.Need-has-requires Inv-loop μ-loop
+has-requires c κs = fed-inside (c .loop .inv .0)
 
 add-i : tie.Need-add-i Inv-loop μ-loop
 add-i c = let l = fed-inside (c .before .before .loop .inv .0) in omega (arith, l)
@@ -29,17 +29,17 @@ loop-less c = let l = fed-inside (c .before .before .loop .inv .0) in omega (ari
 
 loop-again : tie.Need-loop-again Inv-loop μ-loop
 loop-again c = let h = c .before .before .loop .inv in
-    let n = eqb-false _ 10 (sym (c .before .ends .ensures) ∙ not-true _ (c .if1 .taken)) in
+    let n = eqb-false _ 10 (sym (c .before .has .ensures) ∙ not-true _ (c .if1 .taken)) in
     let m = feed-more (c .before .before .before .before .args .s .now) (c .before .before .loop .i) (fed-inside (h .0)) n in
     (fed-on (h .0) refl n _ refl, omega (arith, h .1, m))
 
 returns : tie.Need-returns Inv-loop μ-loop
 returns c = let h = c .before .before .loop .inv in
     let l = fed-inside (h .0) in
-    let m = feed-stop (c .before .before .before .before .args .s .now) (c .before .before .loop .i) l (eqb-true _ 10 (sym (c .before .ends .ensures) ∙ not-false _ (c .if1 .left))) in
+    let m = feed-stop (c .before .before .before .before .args .s .now) (c .before .before .loop .i) l (eqb-true _ 10 (sym (c .before .has .ensures) ∙ not-false _ (c .if1 .left))) in
     (omega (arith, h .1, m), l)
 
 pub feed-from-spec : {M : Type 1} → statement M
 feed-from-spec =
     tie.close
-    (tie.spec Inv-loop μ-loop loop-holds ends-requires add-i loop-less loop-again returns)
+    (tie.spec Inv-loop μ-loop loop-holds has-requires add-i loop-less loop-again returns)

@@ -21,17 +21,17 @@ loop-holds c = (omega arith, none-past (c .before .args .s .now))
 sub-last : tie.Need-sub-last Inv-loop μ-loop
 sub-last c = search needs
 
-ends-requires : tie.Need-ends-requires Inv-loop μ-loop
-ends-requires c κs = search needs
+has-requires : tie.Need-has-requires Inv-loop μ-loop
+has-requires c κs = search needs
 
 returns : tie.Need-returns Inv-loop μ-loop
-returns c = whole-found (c .before .before .before .before .before .args .s .now) (c .before .before .before .loop .inv .1) (c .before .before .loop-test .taken) refl (c .before .before .before .loop .inv .0) (eqb-true _ 10 (sym (c .before .ends .ensures) ∙ c .if1 .taken))
+returns c = whole-found (c .before .before .before .before .before .args .s .now) (c .before .before .before .loop .inv .1) (c .before .before .loop-test .taken) refl (c .before .before .before .loop .inv .0) (eqb-true _ 10 (sym (c .before .has .ensures) ∙ c .if1 .taken))
 
 loop-less : tie.Need-loop-less Inv-loop μ-loop
 loop-less c = search needs
 
 loop-again : tie.Need-loop-again Inv-loop μ-loop
-loop-again c = (omega (arith, c .before .before .before .loop .inv .0), none-from (c .before .before .before .before .before .args .s .now) (c .before .before .before .loop .inv .1) (c .before .before .loop-test .taken) refl (eqb-false _ 10 (sym (c .before .ends .ensures) ∙ c .if1 .left)))
+loop-again c = (omega (arith, c .before .before .before .loop .inv .0), none-from (c .before .before .before .before .before .args .s .now) (c .before .before .before .loop .inv .1) (c .before .before .loop-test .taken) refl (eqb-false _ 10 (sym (c .before .has .ensures) ∙ c .if1 .left)))
 
 returns-2 : tie.Need-returns-2 Inv-loop μ-loop
 returns-2 c = whole-none (c .before .before .before .args .s .now) (c .before .loop .inv .1) (c .loop-test .left)
@@ -44,7 +44,7 @@ whole-lines-spec =
     μ-loop
     loop-holds
     sub-last
-    ends-requires
+    has-requires
     returns
     loop-less
     loop-again
