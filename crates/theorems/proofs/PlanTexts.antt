@@ -11,7 +11,7 @@ use Rattle.rules.specs.Operators.{Operator}
 use Rattle.basics.specs.Texts.{bytes, digit, digitsF, digits, ThreeDigits}
 use Rattle.rules.specs.Problems.{nameOf}
 use Rattle.rules.specs.Plans.{oper, isDigit, read, more, number, ending, position, named, lineOf, linesOf, textOf, textsOf}
-use Rattle.theorems.specs.Shapes.{stepNumber, Small, AllSmall, LineEnd, byFeed, byReturn, beforeFeed, textsEnded}
+use Rattle.theorems.specs.Shapes.{stepNumber, Small, AllSmall, LineEnd, byFeed, byReturn, beforeFeed, onward, textsEnded}
 use Rattle.laws.proofs.TestLaws.{and-l, and-r, and-i, cond-true, cond-false}
 use Rattle.laws.proofs.PlanLaws.{no-more, noFeed, fed}
 
@@ -151,9 +151,8 @@ pub lines-of : (end : ℕ → LineEnd) (os : List Operator) → AllSmall os → 
 unfolding linesOf textsEnded
 lines-of end [] h = refl
 lines-of end (o ∷ os) h =
-    let later : ℕ → LineEnd = λ i. end (suc i) in
-    fed [] (textOf o ++ beforeFeed (end 0)) (textsEnded later os) (noFeed-text o (end 0))
-    ∙ (λ i. line-of o (h .0) (end 0) i ∷ lines-of later os (h .1) i)
+    fed [] (textOf o ++ beforeFeed (end 0)) (textsEnded (onward end) os) (noFeed-text o (end 0))
+    ∙ (λ i. line-of o (h .0) (end 0) i ∷ lines-of (onward end) os (h .1) i)
 
 -- With line feeds alone it is the text that is written.
 pub ended-by-feeds : (os : List Operator) → textsEnded (λ _. byFeed) os ≡ textsOf os

@@ -67,10 +67,14 @@ abbrev pub TextIs : List ℕ → List Line → Type 0
 TextIs ds [] = ds ≡ []
 TextIs ds (l ∷ ls) = (cs : List ℕ) × (rest : List ℕ) × Split ds cs rest × InShape cs l × TextIs rest ls
 
--- C-13: "each line on its own": the text of a list of operators, with a choice of line ends, line by line from 0.
+-- C-13: "each line on its own": a choice of line ends is one for each line, from 0; for the lines after the first it is what it was for these.
+abbrev pub onward : (ℕ → LineEnd) → ℕ → LineEnd
+onward end i = end (suc i)
+
+-- The text of a list of operators, with a choice of line ends.
 unfoldable pub textsEnded : (ℕ → LineEnd) → List Operator → List ℕ
 textsEnded end [] = []
-textsEnded end (o ∷ os) = (textOf o ++ beforeFeed (end 0)) ++ (10 ∷ textsEnded (λ i. end (suc i)) os)
+textsEnded end (o ∷ os) = (textOf o ++ beforeFeed (end 0)) ++ (10 ∷ textsEnded (onward end) os)
 
 -- A text of operators alone: what it is for some choice of line ends.
 pub record OperatorsText (os : List Operator) (ds : List ℕ) : Type 0 where
