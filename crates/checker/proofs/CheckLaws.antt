@@ -16,7 +16,8 @@ use Rattle.rules.specs.Plans.{Line, note, oper, other, linesOf}
 use Rattle.rules.specs.Checks.{finish, checkFrom, checkLines}
 use Rattle.laws.specs.Steps.{kindOperator}
 use Rattle.lines.specs.Places.{shortestLine}
-use Rattle.lines.specs.Lines.{Whole, OperatorLine, CommentLine, IsLine}
+use Rattle.line_ends.specs.Ends.{Whole}
+use Rattle.lines.specs.Lines.{OperatorLine, CommentLine, IsLine}
 use Rattle.lines.specs.declared.Line.the-variants.{Shape}
 use Rattle.lines.proofs.PlaceLaws.{left-over, no-line}
 use Rattle.rows.specs.Sizes.{stackCells}

@@ -30,7 +30,7 @@ pub fn check(
 {
     let mut stack = [0u16; row::STACK];
     let mut run = run::begin(words, &mut stack);
-    let end = lines::whole_lines(text);
+    let end = line_ends::whole_lines(text);
     let mut at: usize = 0;
     let mut lines: u64 = 0;
     while at < end {

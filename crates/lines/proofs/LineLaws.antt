@@ -4,16 +4,14 @@ use mathlib.Core.Bool.{Bool, true, false, _&&_, cond, false≢true}
 use mathlib.Core.List.{List}
 use Prim.Native.Nat.{ℕ, _+_, _-_, _*_, _≤_, _<_}
 use native.Mathlib.Omega.{arith}
-use native.Mathlib.Decide.{decLe}
 use lib.Dec.{leb, eqb}
-use lib.ListN.{length, getD, drop, List·getD-eq-default}
-use lib.Seq.{drop-cons}
-use native.Mathlib.Numerals.{add-one}
+use lib.ListN.{getD, drop}
 use borrow.Author.Tests.{leb-true, eq-eqb, ne-eqb, lt-ltb, le-ltb}
 use mathlib.Core.Logic.{_≢_}
 use Rattle.rules.specs.Plans.{isDigit}
-use Rattle.lines.specs.Places.{smallAt, endBytes, bracketed, positioned, kindOf, operatorAt, feedAt, lineAt}
-use Rattle.lines.specs.Lines.{Fed, Whole}
+use Rattle.line_ends.specs.Ends.{endBytes, feedAt, Fed}
+use Rattle.line_ends.proofs.EndLaws.{fed-on}
+use Rattle.lines.specs.Places.{smallAt, bracketed, positioned, kindOf, operatorAt, lineAt}
 use Rattle.lines.specs.declared.Digits.{Digits}
 use Rattle.lines.specs.declared.Digits.the-variants.{Got, No}
 use Rattle.lines.specs.declared.Line.the-variants.{Op, Comment, Shape}
@@ -50,21 +48,10 @@ module _ (s : List ℕ) (at a : ℕ) (ea : a ≡ getD s at 0) where
         unfolding smallAt
         small-three f = rw (← ea, d, ← eb, e, ne-eqb a 48 z, ← ec, f)
 
--- A line feed comes: the place is inside, and after another byte it comes still.
-module _ {s : List ℕ} {at : ℕ} (f : Fed s at) where
-  pub fed-inside : at < length s
-  fed-inside = omega (arith, f .ahead, f .within)
+-- A line feed comes after a digit, and after a number.
+pub fed-digit : {s : List ℕ} {at x : ℕ} → Fed s at → x ≡ getD s at 0 → isDigit x ≡ true → (q : ℕ) → q ≡ at + 1 → Fed s q
+fed-digit {x = x} f e d = fed-on f e (λ h. omega (arith, digit-range x d))
 
-  module _ {x : ℕ} (e : x ≡ getD s at 0) where
-    pub fed-on : x ≢ 10 → (q : ℕ) → q ≡ at + 1 → Fed s q
-    fed-on n q o =
-        let d : at ≢ f .feed = λ h. n (e ∙ ap (λ (i : ℕ). getD s i 0) h ∙ f .ends) in
-        record { feed = f .feed; ahead = omega (arith, f .ahead, d, o); within = f .within; ends = f .ends }
-
-    pub fed-digit : isDigit x ≡ true → (q : ℕ) → q ≡ at + 1 → Fed s q
-    fed-digit d = fed-on (λ h. omega (arith, digit-range x d))
-
--- So it does after a number.
 pub small-fed : {s : List ℕ} {at v q : ℕ} → Fed s at → smallAt s at ≡ Got v q → Fed s q
 unfolding smallAt
 small-fed {s} {at} {v} {q} f h = go (isDigit (getD s at 0)) refl (isDigit (getD s (at + 1) 0)) refl (eqb (getD s at 0) 48) (isDigit (getD s (at + 2) 0)) refl _ _ _ h
@@ -85,31 +72,6 @@ small-fed {s} {at} {v} {q} f h = go (isDigit (getD s at 0)) refl (isDigit (getD 
     go true a true b false false e x1 x2 x3 g = ends x2 (at + 2) (two a b) g
     go true a false b z c e x1 x2 x3 g = ends x1 (at + 1) (one a) g
     go false a b e z c d x1 x2 x3 g = let z : _≡_ {A = ℕ} 0 1 = cc in absurd (omega arith)
-
--- The ways out of a line's end, by whether a line feed stands at its place, and whether a carriage return does with a line feed after it.
-module _ (s : List ℕ) (at : ℕ) {feed : Bool} (ef : feed ≡ eqb (getD s at 0) 10) where
-  pub end-feed : feed ≡ true → 1 ≡ endBytes s at
-  unfolding endBytes
-  end-feed h = rw (← ef, h)
-
-  module _ (h : feed ≡ false) {both : Bool} (eb : both ≡ (eqb (getD s at 0) 13 && eqb (getD s (at + 1) 0) 10)) where
-    pub end-none : both ≡ false → 0 ≡ endBytes s at
-    unfolding endBytes
-    end-none g = rw (← ef, h, ← eb, g)
-
-    pub end-both : both ≡ true → 2 ≡ endBytes s at
-    unfolding endBytes
-    end-both g = rw (← ef, h, ← eb, g)
-
--- A line's end has at most two bytes.
-pub end-most : (s : List ℕ) (at : ℕ) {n : ℕ} → n ≡ endBytes s at → n ≤ 2
-unfolding endBytes
-end-most s at {n} h = go (eqb (getD s at 0) 10) (eqb (getD s at 0) 13 && eqb (getD s (at + 1) 0) 10) h
-  where
-    go : (x y : Bool) → n ≡ cond x 1 (cond y 2 0) → n ≤ 2
-    go true y g = omega (arith, g)
-    go false true g = omega (arith, g)
-    go false false g = omega (arith, g)
 
 -- The ways out after a position, by its closing bracket y and the bytes of the line's end after it.
 module _ (s : List ℕ) (kind number pos q y : ℕ) (ey : y ≡ getD s q 0) where
@@ -151,36 +113,6 @@ module _ (s : List ℕ) (at k kind : ℕ) (ek : k ≡ getD s (at + 1) 0) (kk : k
   -- A letter is no line feed.
   pub letter-byte : kind ≤ 1 → k ≢ 10
   letter-byte h e = let n : kind ≡ 2 = kk ∙ ap kindOf e in omega arith
-
--- The line feed from a place on.
-module _ (s : List ℕ) (i : ℕ) where
-  pub feed-stop : i < length s → getD s i 0 ≡ 10 → feedAt (drop i s) ≡ 0
-  unfolding feedAt
-  feed-stop h b = rw (drop-cons s i 0 h, eq-eqb _ _ b)
-
-  pub feed-more : i < length s → getD s i 0 ≢ 10 → feedAt (drop i s) ≡ feedAt (drop (i + 1) s) + 1
-  unfolding feedAt
-  feed-more h b = rw (drop-cons s i 0 h, ne-eqb _ _ b, add-one, add-one)
-
--- No line feed from a place on: none after the end, and one byte less at a time.
-module _ (s : List ℕ) where
-  pub none-past : (i : ℕ) → length s ≤ i → getD s i 0 ≢ 10
-  none-past i l e = let z : getD s i 0 ≡ 0 = List·getD-eq-default s 0 l in omega arith
-
-  module _ {n : ℕ} (h : (i : ℕ) → n ≤ i → getD s i 0 ≢ 10) (some : 0 < n) {last : ℕ} (e : last ≡ n - 1) where
-    pub none-from : getD s last 0 ≢ 10 → (i : ℕ) → last ≤ i → getD s i 0 ≢ 10
-    none-from b i l =
-        elim (decLe n i) [
-          | yes g ↦ h i g
-          | no g ↦ (let o : i ≡ last = omega arith in λ q. b (ap (λ (j : ℕ). getD s j 0) (sym o) ∙ q))
-        ]
-
-    pub whole-found : n ≤ length s → getD s last 0 ≡ 10 → Whole s n
-    whole-found l b =
-        record { within = l; fed = λ at g. record { feed = last; ahead = omega arith; within = omega arith; ends = b }; none-after = h }
-
-  pub whole-none : {n : ℕ} → ((i : ℕ) → n ≤ i → getD s i 0 ≢ 10) → n ≤ 0 → Whole s n
-  whole-none h z = record { within = omega arith; fed = λ at g. absurd (omega arith); none-after = h }
 
 -- The ways out of a line by its first byte.
 module _ (s : List ℕ) (at c : ℕ) (ec : c ≡ getD s at 0) where

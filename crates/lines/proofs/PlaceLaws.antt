@@ -12,15 +12,17 @@ use borrow.Author.Tests.{eqb-true, eqb-false, ne-eqb}
 use Rattle.rules.specs.Plans as plans
 use Rattle.rules.specs.Plans.{note, oper, other, isDigit, read, unread, more, number, atEnd, ending, position, space, named, letter, lineOf, leftover, linesOf}
 use Rattle.laws.proofs.TestLaws.{and-l, and-r, and-i}
+use Rattle.line_ends.specs.Ends.{endBytes, feedAt, Fed, Whole}
+use Rattle.line_ends.proofs.EndLaws.{end-feed, end-none, end-both}
 use Rattle.laws.proofs.PlanLaws.{no-more, noFeed, not-feed, no-feed-at, by-feed, fed, unfed}
 use Rattle.lines.specs.declared.Digits.{Digits}
 use Rattle.lines.specs.declared.Digits.the-variants.{Got, No}
 use Rattle.lines.specs.declared.Line.{Line}
 use Rattle.lines.specs.declared.Line.the-variants.{Op, Comment, Shape}
-use Rattle.lines.specs.Places.{shortestLine, smallAt, endBytes, bracketed, positioned, kindOf, operatorAt, feedAt, lineAt}
+use Rattle.lines.specs.Places.{shortestLine, smallAt, bracketed, positioned, kindOf, operatorAt, lineAt}
 use Rattle.laws.specs.Steps.{kindStep, kindOperator}
-use Rattle.lines.specs.Lines.{Fed, Whole, IsLine}
-use Rattle.lines.proofs.LineLaws.{small-none, small-one, small-zero, small-two, small-three, end-feed, end-none, end-both, close-other, close-on, close-ends, line-kind, after-kind, at-operator, at-other, at-comment}
+use Rattle.lines.specs.Lines.{IsLine}
+use Rattle.lines.proofs.LineLaws.{small-none, small-one, small-zero, small-two, small-three, close-other, close-on, close-ends, line-kind, after-kind, at-operator, at-other, at-comment}
 
 -- The bytes from p on: cs, a line feed, rest.
 abbrev Ahead : List ℕ → List ℕ → ℕ → List ℕ → Type 0

@@ -2,27 +2,13 @@
 use Prim.Native.Nat.{ℕ, _+_, _≤_, _<_}
 use mathlib.Core.Path.{_≡_}
 use mathlib.Core.List.{List, _∷_}
-use mathlib.Core.Logic.{_≢_}
-use lib.ListN.{length, getD, drop}
+use lib.ListN.{length, drop}
 use Rattle.rules.specs.Plans as plans
 use Rattle.rules.specs.Plans.{note, oper, other, linesOf}
 use Rattle.laws.specs.Steps.{kindOperator}
 use Rattle.lines.specs.Places.{shortestLine}
 use Rattle.lines.specs.declared.Line.{Line}
 use Rattle.lines.specs.declared.Line.the-variants.{Op, Comment, Shape}
-
--- A line feed comes, at a place or after it: no byte up to there has to be tested for being there.
-pub record Fed (s : List ℕ) (at : ℕ) : Type 0 where
-  pub feed : ℕ
-  pub ahead : at ≤ feed
-  pub within : feed < length s
-  pub ends : getD s feed 0 ≡ 10
-
--- Up to `end` there are whole lines, and no line feed after it.
-pub record Whole (s : List ℕ) (end : ℕ) : Type 0 where
-  pub within : end ≤ length s
-  pub fed : (at : ℕ) → at < end → Fed s at
-  pub none-after : (i : ℕ) → end ≤ i → getD s i 0 ≢ 10
 
 -- The line at a place, and the lines after it from the next place on.
 pub record OperatorLine (s : List ℕ) (at kind number pos next : ℕ) : Type 0 where

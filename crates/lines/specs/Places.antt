@@ -1,10 +1,11 @@
 -- One line of a plan text, byte by byte from a place on. A byte past the end reads as 0.
-use mathlib.Core.Bool.{_&&_, cond}
-use mathlib.Core.List.{List, [], _∷_}
-use Prim.Native.Nat.{ℕ, suc, _+_, _-_, _*_}
+use mathlib.Core.Bool.{cond}
+use mathlib.Core.List.{List}
+use Prim.Native.Nat.{ℕ, _+_, _-_, _*_}
 use lib.Dec.{ltb, eqb}
 use lib.ListN.{getD, drop}
 use Rattle.rules.specs.Plans.{isDigit}
+use Rattle.line_ends.specs.Ends.{endBytes, feedAt}
 use Rattle.lines.specs.declared.Digits.{Digits}
 use Rattle.lines.specs.declared.Digits.the-variants.{Got, No}
 use Rattle.lines.specs.declared.Line.{Line}
@@ -26,10 +27,6 @@ smallAt s at =
     (Got (getD s at 0 - 48) (at + 1)))
     No
 
--- How many bytes end an operator's line at a place: one line feed, or a carriage return and a line feed; 0 where neither stands there.
-unfoldable pub endBytes : List ℕ → ℕ → ℕ
-endBytes s at = cond (eqb (getD s at 0) 10) 1 (cond (eqb (getD s at 0) 13 && eqb (getD s (at + 1) 0) 10) 2 0)
-
 -- A closing bracket and the line's end.
 abbrev pub bracketed : List ℕ → ℕ → ℕ → Digits → Line
 bracketed s kind number No = Shape
@@ -47,11 +44,6 @@ kindOf c = cond (eqb c 97) 0 (cond (eqb c 109) 1 2)
 -- What follows the opening bracket at a place.
 unfoldable pub operatorAt : List ℕ → ℕ → Line
 operatorAt s at = cond (ltb 1 (kindOf (getD s (at + 1) 0))) Shape (positioned s (kindOf (getD s (at + 1) 0)) (smallAt s (at + 2)))
-
--- How many bytes come before the first line feed, or before the end.
-unfoldable pub feedAt : List ℕ → ℕ
-feedAt [] = 0
-feedAt (b ∷ bs) = cond (eqb b 10) 0 (suc (feedAt bs))
 
 -- A line that a line feed ends: an operator, or a comment.
 unfoldable pub lineAt : List ℕ → ℕ → Line

@@ -1,19 +1,14 @@
-// One line of a plan text. The last line feed is found first: up to it no byte is tested for being there.
+// One line of a plan text that has a line feed ahead: up to it no byte is tested for being there.
 ghost use mathlib.Core.Path.{_≡_};
-ghost use Prim.Native.Nat.{_+_, _<_};
-ghost use lib.Dec.{eqb};
-ghost use lib.ListN.{length, getD, drop};
+ghost use Prim.Native.Nat.{_+_};
 ghost use Rattle.rules.specs.Plans.{isDigit};
-ghost use Rattle.lines.specs.Places.{smallAt, endBytes, bracketed, positioned, operatorAt, kindOf, feedAt};
-ghost use Rattle.lines.specs.Lines.{Fed, Whole, IsLine};
+ghost use Rattle.line_ends.specs.Ends.{Fed};
+ghost use Rattle.lines.specs.Places.{smallAt, bracketed, positioned, operatorAt, kindOf};
+ghost use Rattle.lines.specs.Lines.{IsLine};
 ghost use Rattle.lines.specs.declared.Digits.the-variants.{Got};
 
 // `(a0 1)` and its line feed.
 pub const SHORTEST_LINE: usize = 7;
-
-const LINE_FEED: u8 = 10;
-
-const CARRIAGE_RETURN: u8 = 13;
 
 // Kind (0 action, 1 method), number, position and the next place; a comment and the next place; another shape.
 pub enum Line {
@@ -38,28 +33,6 @@ fn is_digit(c: u64) -> bool
     ensures { λ r. ⌜ r ≡ isDigit c ⌝ }
 {
     (48 <= c) & (c <= 57)
-}
-
-// Whether a place has a byte.
-fn has(s: &[u8], at: usize, byte: u8) -> bool
-    requires { ⌜ at < length (now s) ⌝ }
-    ensures { λ r. ⌜ r ≡ eqb (getD (now (s .entry)) at 0) byte ⌝ }
-{
-    s[at] == byte
-}
-
-// How many bytes end an operator's line at a place, 0 if none do: the line feed is asked first, and the two bytes of the other end in one comparison.
-fn end_bytes(s: &[u8], at: usize) -> usize
-    requires { ⌜ Fed (now s) at ⌝ }
-    ensures { λ r. ⌜ r ≡ endBytes (now (s .entry)) at ⌝ }
-{
-    if has(s, at, LINE_FEED) {
-        return 1;
-    }
-    match has(s, at, CARRIAGE_RETURN) & has(s, at + 1, LINE_FEED) {
-        true => 2,
-        false => 0,
-    }
 }
 
 // A number of one to three digits.
@@ -107,7 +80,7 @@ fn close(s: &[u8], kind: u64, number: u64, pos: u64, at: usize) -> Line
     if bracket != 41 {
         return Line::Shape;
     }
-    match end_bytes(s, at + 1) {
+    match line_ends::end_bytes(s, at + 1) {
         0 => Line::Shape,
         1 => Line::Op(kind, number, pos, at + 2),
         _ => Line::Op(kind, number, pos, at + 3),
@@ -145,33 +118,6 @@ fn operator(s: &[u8], at: usize) -> Line
     }
 }
 
-// The place of the first line feed from `at` on.
-fn feed_from(s: &[u8], at: usize) -> usize
-    requires { ⌜ Fed (now s) at ⌝ }
-    ensures { λ r. ⌜ (r ≡ at + feedAt (drop at (now (s .entry)))) × (r < length (now (s .entry))) ⌝ }
-{
-    let mut i = at;
-    while !has(s, i, LINE_FEED) {
-        i += 1;
-    }
-    i
-}
-
-// How many bytes the text has up to its last line feed.
-pub fn whole_lines(s: &[u8]) -> usize
-    ensures { λ r. ⌜ Whole (now (s .entry)) r ⌝ }
-{
-    let mut n = s.len();
-    while 0 < n {
-        let last = n - 1;
-        if has(s, last, LINE_FEED) {
-            return n;
-        }
-        n = last;
-    }
-    n
-}
-
 // The line at a place.
 pub fn line_at(s: &[u8], at: usize) -> Line
     requires { ⌜ Fed (now s) at ⌝ }
@@ -184,6 +130,6 @@ pub fn line_at(s: &[u8], at: usize) -> Line
     if c != 59 {
         return Line::Shape;
     }
-    let e = feed_from(s, at);
+    let e = line_ends::feed_from(s, at);
     Line::Comment(e + 1)
 }

@@ -1,6 +1,7 @@
 use mathlib.Core.Path.{refl}
 use native.Mathlib.Omega.{arith}
-use Rattle.lines.proofs.LineLaws.{fed-on, end-most, close-other, close-on, close-ends}
+use Rattle.line_ends.proofs.EndLaws.{fed-on, end-most}
+use Rattle.lines.proofs.LineLaws.{close-other, close-on, close-ends}
 use borrow.Author.Needs.{needs}
 use Rattle.lines.proofs.close.Statement.{statement}
 use Rattle.lines.proofs.close.Tie as tie

@@ -1,7 +1,8 @@
 use mathlib.Core.Path.{refl, _∙_}
 use native.Mathlib.Omega.{arith}
 use Rattle.lines.proofs.PlaceLaws.{told}
-use Rattle.lines.proofs.LineLaws.{fed-inside, fed-on, at-operator, at-other, at-comment}
+use Rattle.line_ends.proofs.EndLaws.{fed-inside, fed-on}
+use Rattle.lines.proofs.LineLaws.{at-operator, at-other, at-comment}
 use borrow.Author.Needs.{needs}
 use Rattle.lines.proofs.line_at.Statement.{statement}
 use Rattle.lines.proofs.line_at.Tie as tie

@@ -1,6 +1,7 @@
 use mathlib.Core.Path.{sym, _∙_}
 use native.Mathlib.Omega.{arith}
-use Rattle.lines.proofs.LineLaws.{fed-inside, fed-on, small-fed, line-kind, name-on, letter-byte}
+use Rattle.line_ends.proofs.EndLaws.{fed-inside, fed-on}
+use Rattle.lines.proofs.LineLaws.{small-fed, line-kind, name-on, letter-byte}
 use borrow.Author.Needs.{needs}
 use Rattle.lines.proofs.operator.Statement.{statement}
 use Rattle.lines.proofs.operator.Tie as tie

@@ -1,6 +1,7 @@
 use mathlib.Core.Path.{refl, sym, _∙_}
 use native.Mathlib.Omega.{arith}
-use Rattle.lines.proofs.LineLaws.{fed-inside, fed-on, small-fed, space-other, space-on}
+use Rattle.line_ends.proofs.EndLaws.{fed-inside, fed-on}
+use Rattle.lines.proofs.LineLaws.{small-fed, space-other, space-on}
 use borrow.Author.Needs.{needs}
 use Rattle.lines.proofs.position.Statement.{statement}
 use Rattle.lines.proofs.position.Tie as tie

@@ -1,7 +1,8 @@
 use mathlib.Core.Path.{refl, sym, _∙_}
 use native.Mathlib.Omega.{arith}
 use borrow.Author.Tests.{not-true, not-false}
-use Rattle.lines.proofs.LineLaws.{fed-inside, fed-digit, digit-range, small-none, small-one, small-zero, small-two, small-three}
+use Rattle.line_ends.proofs.EndLaws.{fed-inside}
+use Rattle.lines.proofs.LineLaws.{fed-digit, digit-range, small-none, small-one, small-zero, small-two, small-three}
 use borrow.Author.Needs.{needs}
 use Rattle.lines.proofs.small.Statement.{statement}
 use Rattle.lines.proofs.small.Tie as tie

@@ -3,11 +3,10 @@ use mathlib.Core.Path.{_≡_, refl, sym, _∙_}
 use native.Mathlib.Omega.{arith}
 use borrow.Author.Tests.{not-true, not-false, eqb-true, eqb-false}
 use lib.ListN.{length, drop}
-use Rattle.lines.specs.Places.{feedAt}
-use Rattle.lines.specs.Lines.{Fed}
-use Rattle.lines.proofs.LineLaws.{fed-inside, fed-on, feed-stop, feed-more}
-use Rattle.lines.proofs.feed_from.Statement.{statement}
-use Rattle.lines.proofs.feed_from.Tie as tie
+use Rattle.line_ends.specs.Ends.{feedAt, Fed}
+use Rattle.line_ends.proofs.EndLaws.{fed-inside, fed-on, feed-stop, feed-more}
+use Rattle.line_ends.proofs.feed_from.Statement.{statement}
+use Rattle.line_ends.proofs.feed_from.Tie as tie
 
 abbrev Inv-loop : tie.InvT-loop
 Inv-loop s at i₀ i = Fed s i × (i + feedAt (drop i s) ≡ at + feedAt (drop at s))

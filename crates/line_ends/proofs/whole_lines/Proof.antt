@@ -4,10 +4,10 @@ use mathlib.Core.Logic.{_≢_}
 use native.Mathlib.Omega.{arith}
 use borrow.Author.Tests.{eqb-true, eqb-false}
 use lib.ListN.{length, getD}
-use Rattle.lines.proofs.LineLaws.{none-past, none-from, whole-found, whole-none}
+use Rattle.line_ends.proofs.EndLaws.{none-past, none-from, whole-found, whole-none}
 use borrow.Author.Needs.{needs}
-use Rattle.lines.proofs.whole_lines.Statement.{statement}
-use Rattle.lines.proofs.whole_lines.Tie as tie
+use Rattle.line_ends.proofs.whole_lines.Statement.{statement}
+use Rattle.line_ends.proofs.whole_lines.Tie as tie
 
 abbrev Inv-loop : tie.InvT-loop
 Inv-loop s n₀ n = (n ≤ length s) × ((i : ℕ) → n ≤ i → getD s i 0 ≢ 10)

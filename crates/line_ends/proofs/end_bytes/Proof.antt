@@ -1,10 +1,10 @@
 use mathlib.Core.Path.{refl, sym, _∙_}
 use mathlib.Core.Bool.{_&&_}
 use borrow.Author.Tests.{eqb-false}
-use Rattle.lines.proofs.LineLaws.{fed-inside, fed-on, end-feed, end-none, end-both}
+use Rattle.line_ends.proofs.EndLaws.{fed-inside, fed-on, end-feed, end-none, end-both}
 use borrow.Author.Needs.{needs}
-use Rattle.lines.proofs.end_bytes.Statement.{statement}
-use Rattle.lines.proofs.end_bytes.Tie as tie
+use Rattle.line_ends.proofs.end_bytes.Statement.{statement}
+use Rattle.line_ends.proofs.end_bytes.Tie as tie
 
 has-requires : tie.Need-has-requires
 has-requires c κs = search needs
