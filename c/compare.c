@@ -519,7 +519,7 @@ static void account(void)
     }
     printf("cases with two least bounds %lu\n", (unsigned long)tally.two_leasts);
     tally.failed += tally.two_leasts == 0;
-    printf("accepted plans of two operators and more: with line feeds %lu, with carriage returns %lu, drawn %lu\n",
+    printf("accepted plans of two operators and more: with line feeds %lu, with carriage returns %lu, mixed %lu\n",
            (unsigned long)tally.ends[0], (unsigned long)tally.ends[1], (unsigned long)(tally.ends[2] + tally.ends[3]));
     tally.failed += !tally.ends[0] + !tally.ends[1] + !tally.ends[2] + !tally.ends[3];
     printf("accepted plans %lu; longest table read %lu bytes, longest plan accepted %lu bytes, most steps %lu\n",

@@ -111,8 +111,8 @@ uint64_t ildorzhen_least_bound(uint64_t form, const uint8_t *table, size_t table
 
 /* Check a plan for a table, with a bound and a form. _number hands back 0 for a whole plan, and only for one: every line is in
  * shape, every operator may run where it stands, the stack is empty at the end and the goal facts hold.
- * A line ends with a line feed, or with a carriage return and a line feed, each line on its own; a carriage return anywhere else is
- * 11, but in a comment, whose content it is. plan_length counts it.
+ * A line ends with a line feed, or with a carriage return and a line feed, each line on its own; anywhere else a carriage return is
+ * 11, except in a comment, where it is content. plan_length counts it.
  * _cost hands back what the plan's actions cost by the table, _operators how many operators its lines run, _steps how many
  * steps these take, each method and each action being one.
  * Refusals: 1 to 9, 11 to 15. Writes: nothing. */
@@ -147,9 +147,9 @@ uint64_t ildorzhen_expand_write(uint64_t bound, uint64_t form, const uint8_t *ta
  * An operator is applied for each list of 1 to limit operators that may run from the start, a list before those that continue it,
  * up to the plan found and with it; where there is no plan, for all such lists. budget says how many may be: a number equal to it
  * is allowed, and a search that comes to one more ends there.
- * _applied hands back how many were applied, _length the length of the plan's text, each line of which ends with a line feed alone;
- * _write writes the text and hands back its length, which is 0 only where it refuses. Each call is a search of its own: _write with room for ILDORZHEN_MOST_FOUND_BYTES
- * first, and the others where more is to be known.
+ * _applied hands back how many were applied, _length the length of the plan's text, whose lines end with a line feed alone; _write
+ * writes the text and hands back its length, which is 0 only where it refuses. Each call is a search of its own: _write with room
+ * for ILDORZHEN_MOST_FOUND_BYTES first, and the others where more is to be known.
  * Refusals: 1, 2, 17, 3, 5 to 9, 19, 18, 16. Asked with no room (a null pointer and 0), 16 has the room needed as its place.
  * Writes: _write the first bytes of text, as many as it hands back, and those after them stay; the other four nothing. */
 uint64_t ildorzhen_search_number(uint64_t bound, uint64_t form, uint64_t limit, uint64_t budget,

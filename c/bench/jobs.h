@@ -48,7 +48,7 @@ static uint64_t do_job(const struct jobs *jobs, const struct input *in, const ch
     return sum;
 }
 
-/* Of a plan the first lines, as many as fit with a carriage return each: without, or with it. */
+/* Copies as many of a plan's first lines as fit with a carriage return in each; the same lines with them or without. */
 static size_t copy_lines(uint8_t *to, const uint8_t *plan, size_t length, int returns)
 {
     size_t written = 0, whole = 0, lines = 0;
@@ -64,7 +64,8 @@ static size_t copy_lines(uint8_t *to, const uint8_t *plan, size_t length, int re
     return whole;
 }
 
-/* The emitting program's input, or the checking program's: with its plan, its first lines by one line end or the other, or no line. */
+/* The emitting program's input, or the checking program's: its plan, the plan's first lines with one line end or the other, or an
+ * empty plan. */
 static uint64_t do_call(const struct jobs *jobs, const uint8_t *bytes, size_t length, const char *job, const char *kind)
 {
     static uint8_t lines[PLAN_ROOM];

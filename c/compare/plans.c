@@ -22,9 +22,10 @@ static void put_decimal(struct plan_text *p, unsigned n)
     put_byte(p, (int)('0' + n % 10));
 }
 
+/* Line ends are drawn apart, so that they go with nothing else that is drawn. */
 static void draw_ends(struct plan_text *p, struct draws d)
 {
-    p->ends = d;
+    p->ends.state = ~d.state;
     p->returns = below(&p->ends, 4);
 }
 
@@ -256,10 +257,16 @@ static size_t inner_length(const uint8_t *line, size_t length)
     return length - 1 - (length > 1 && line[length - 2] == '\r');
 }
 
-/* Carriage returns where they are, or are not, of the line's end. */
+/* Carriage returns in their place, and in each wrong one. */
 static void put_returned(struct plan_text *to, const uint8_t *line, size_t length, enum line_damage kind, struct draws *d)
 {
-    size_t inner = inner_length(line, length), at = kind == RETURN_INSIDE ? below(d, (unsigned)inner) : kind == RETURN_ALONE ? 0 : inner;
+    size_t inner = inner_length(line, length), at = inner;
+    if (kind == RETURN_INSIDE)
+        at = below(d, (unsigned)inner);
+    else if (kind == RETURN_ALONE)
+        at = 0;
+    else if (kind == RETURN_LAST)
+        at = length;
     put_bytes(to, line, at);
     put_byte(to, '\r');
     if (kind == TWO_RETURNS)
@@ -285,6 +292,7 @@ static void put_damaged(struct plan_text *to, const struct plan_text *from, unsi
     case EMPTY_LINE: put_byte(to, '\n'); put_bytes(to, line, length); break;
     case COMMENT_LINE: put_comment(to, d); put_bytes(to, line, length); break;
     case RETURN: case TWO_RETURNS: case RETURN_INSIDE: case RETURN_ALONE: case RETURN_FOR_FEED: case CUT_AT_RETURN:
+    case RETURN_LAST:
         put_returned(to, line, length, kind, d);
         break;
     case WIDE_BLANK: put_blank_line(to, line, length, d); break;
@@ -311,7 +319,7 @@ void damage_line(struct plan_text *to, const struct plan_text *from, unsigned li
     size_t length = to->length;
     put_bytes(to, from->bytes + next, end - next);
     /* A cut leaves the rest of the plan behind the end, where it must not be read. */
-    if (kind == CUT_AT_LINE || kind == CUT_IN_LINE || kind == CUT_AT_RETURN)
+    if (kind == CUT_AT_LINE || kind == CUT_IN_LINE || kind == CUT_AT_RETURN || kind == RETURN_LAST)
         to->length = length;
 }
 

@@ -9,7 +9,7 @@ const LINE_FEED: u8 = 10;
 
 const CARRIAGE_RETURN: u8 = 13;
 
-// Whether a place has a byte.
+// Whether this byte stands at a place.
 fn has(s: &[u8], at: usize, byte: u8) -> bool
     requires { ⌜ at < length (now s) ⌝ }
     ensures { λ r. ⌜ r ≡ eqb (getD (now (s .entry)) at 0) byte ⌝ }
@@ -17,7 +17,7 @@ fn has(s: &[u8], at: usize, byte: u8) -> bool
     s[at] == byte
 }
 
-// How many bytes end an operator's line at a place, 0 if none do: the line feed is asked first, and the two bytes of the other end in one comparison.
+// How many bytes end an operator's line at a place, 0 if none do. The line feed comes first: it is the usual end.
 pub fn end_bytes(s: &[u8], at: usize) -> usize
     requires { ⌜ Fed (now s) at ⌝ }
     ensures { λ r. ⌜ r ≡ endBytes (now (s .entry)) at ⌝ }

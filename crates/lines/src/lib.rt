@@ -1,4 +1,4 @@
-// One line of a plan text that has a line feed ahead: up to it no byte is tested for being there.
+// One line of a plan text, where a line feed is ahead.
 ghost use mathlib.Core.Path.{_≡_};
 ghost use Prim.Native.Nat.{_+_};
 ghost use Rattle.rules.specs.Plans.{isDigit};
@@ -71,7 +71,7 @@ fn kind_of(k: u64) -> u64
     2
 }
 
-// The closing bracket and the line's end, after the position.
+// The closing bracket and the line's end, after the position. Each end has its way on, so that no place is computed from a count.
 fn close(s: &[u8], kind: u64, number: u64, pos: u64, at: usize) -> Line
     requires { ⌜ Fed (now s) at ⌝ }
     ensures { λ r. ⌜ r ≡ bracketed (now (s .entry)) kind number (Got pos at) ⌝ }

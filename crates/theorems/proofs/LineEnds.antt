@@ -1,20 +1,41 @@
--- C-13: the texts of a list of operators are those with a line end chosen for each line; and the lines of a plan decide, not how each of them ends.
+-- C-13: where a carriage return is of no line's end; the texts of a list of operators, with a line end chosen for each line; and that the lines of a plan
+-- decide, not how each of them ends.
 use Prim.Native.Nat.{ℕ, zero, suc, _≤_}
-use mathlib.Core.Path.{_≡_, sym, ap, _∙_}
+use mathlib.Core.Path.{_≡_, refl, sym, ap, _∙_}
 use mathlib.Core.Logic.{_↔_}
 use mathlib.Core.List.{List, [], _∷_, _++_, map}
-use lib.ListN.{length}
+use native.Mathlib.Omega.{arith}
+use lib.ListN.{length, length-append}
 use Rattle.basics.specs.Answers.{after}
 use Rattle.rules.specs.Limits.{mostPlanBytes}
 use Rattle.rules.specs.Operators.{Operator, expandAll}
-use Rattle.rules.specs.Plans.{Line, oper, linesOf, opersOf}
+use Rattle.rules.specs.Plans.{Line, note, oper, other, lineOf, linesOf, opersOf, textOf}
 use Rattle.rules.specs.Checks.{checkLines, stepBytes}
 use Rattle.rules.specs.Refusals.{planNumber, opened, roomFor, checkPlan, expandPlan}
 use Rattle.laws.proofs.RefusalLaws.{plan-fits}
-use Rattle.theorems.specs.Shapes.{LineEnd, byFeed, TextIs, textsEnded, OperatorsText}
-use Rattle.theorems.proofs.LineShapes.{text-is}
-use Rattle.theorems.proofs.PlanTexts.{lines-of}
+use Rattle.theorems.specs.Shapes.{LineEnd, byFeed, byReturn, beforeFeed, Comment, InShape, TextIs, textsEnded, OperatorsText}
+use Rattle.theorems.proofs.LineShapes.{line-is, text-is}
+use Rattle.theorems.proofs.PlanTexts.{Above, above-text, lines-of}
 use Rattle.theorems.proofs.Demand3.{opers-shaped}
+
+-- A text without carriage returns, and a line's end: none is in it that another byte follows.
+stray : (xs ys zs : List ℕ) (y : ℕ) (end : LineEnd) → Above 13 zs → xs ++ (13 ∷ y ∷ ys) ≡ zs ++ beforeFeed end → ⊥
+stray xs ys [] y byFeed h e = omega (arith, ap length e, length-append xs (13 ∷ y ∷ ys))
+stray xs ys [] y byReturn h e = omega (arith, ap length e, length-append xs (13 ∷ y ∷ ys))
+stray [] ys (z ∷ zs) y end h e = let q : 13 ≡ z = cc in omega (arith, h .0)
+stray (x ∷ xs) ys (z ∷ zs) y end h e = stray xs ys zs y end (h .1) (cc)
+
+-- "A carriage return anywhere else outside a comment is still 11": a line that has one before another of its bytes, or nothing else, is of another shape.
+pub stray-return : (xs : List ℕ) (y : ℕ) (ys : List ℕ) → (Comment (xs ++ (13 ∷ y ∷ ys)) → ⊥) → lineOf (xs ++ (13 ∷ y ∷ ys)) ≡ other
+stray-return xs y ys n = line-is (xs ++ (13 ∷ y ∷ ys)) other .1 none
+  where
+    none : (l : Line) → InShape (xs ++ (13 ∷ y ∷ ys)) l → ⊥
+    none note h = n h
+    none (oper o) h = stray xs ys (textOf o) y (h .end) (above-text 13 (omega arith) o) (h .text)
+    none other h = h
+
+pub lone-return : lineOf (13 ∷ []) ≡ other
+lone-return = refl
 
 -- A choice of line ends for the lines after the first, and one for the first.
 abbrev chosen : LineEnd → (ℕ → LineEnd) → ℕ → LineEnd

@@ -12,7 +12,7 @@ use Rattle.basics.specs.Texts.{bytes, digit, digitsF, digits, ThreeDigits}
 use Rattle.rules.specs.Problems.{nameOf}
 use Rattle.rules.specs.Plans.{oper, isDigit, read, more, number, ending, position, named, lineOf, linesOf, textOf, textsOf}
 use Rattle.theorems.specs.Shapes.{stepNumber, Small, AllSmall, LineEnd, byFeed, byReturn, beforeFeed, onward, textsEnded}
-use Rattle.laws.proofs.TestLaws.{and-l, and-r, and-i, cond-true, cond-false}
+use Rattle.laws.proofs.TestLaws.{and-i, cond-true, cond-false}
 use Rattle.laws.proofs.PlanLaws.{no-more, noFeed, fed}
 
 a-digit : (x : ℕ) → x < 10 → T (isDigit (48 + x))
@@ -111,37 +111,50 @@ line-of o h end = ap lineOf (text-of o (beforeFeed end)) ∙ go (o .what) (o .at
     go (act k) i l h = ap (named act) (number-digits k 32 _ l tt) ∙ after (act k) i h
     go (mth k) i l h = ap (named mth) (number-digits k 32 _ l tt) ∙ after (mth k) i h
 
-noFeed-append : (xs ys : List ℕ) → T (noFeed xs) → T (noFeed ys) → T (noFeed (xs ++ ys))
-noFeed-append [] ys h k = k
-noFeed-append (x ∷ xs) ys h k =
-    and-i (not (eqb x 10)) (noFeed (xs ++ ys)) (and-l (not (eqb x 10)) (noFeed xs) h)
-    (noFeed-append xs ys (and-r (not (eqb x 10)) (noFeed xs) h) k)
+-- Each byte is greater than b.
+abbrev pub Above : ℕ → List ℕ → Type 0
+Above b [] = Unit {0}
+Above b (c ∷ cs) = (b < c) × Above b cs
 
-noFeed-digit : (n : ℕ) → T (noFeed (digit n))
-noFeed-digit n = and-i (not (eqb (48 + n % 10) 10)) true (not-eqb (48 + n % 10) 10 (λ q. omega arith)) tt
+module _ (b : ℕ) where
+  above-append : (xs ys : List ℕ) → Above b xs → Above b ys → Above b (xs ++ ys)
+  above-append [] ys h k = k
+  above-append (x ∷ xs) ys h k = (h .0, above-append xs ys (h .1) k)
 
-noFeed-digitsF : (f n : ℕ) → T (noFeed (digitsF f n))
-unfolding digitsF
-noFeed-digitsF zero n = noFeed-digit n
-noFeed-digitsF (suc f) n = go (ltb n 10) (noFeed-digitsF f (n / 10))
-  where
-    go : (x : Bool) → T (noFeed (digitsF f (n / 10))) → T (noFeed (cond x [] (digitsF f (n / 10)) ++ digit n))
-    go true h = noFeed-digit n
-    go false h = noFeed-append (digitsF f (n / 10)) (digit n) h (noFeed-digit n)
+  -- So it is of an operator's text, for every byte below the blank.
+  module _ (low : b < 32) where
+    above-digit : (n : ℕ) → Above b (digit n)
+    above-digit n = (omega arith, tt)
 
-noFeed-digits : (n : ℕ) → T (noFeed (digits n))
-unfolding digits
-noFeed-digits n = noFeed-digitsF n n
+    above-digitsF : (f n : ℕ) → Above b (digitsF f n)
+    unfolding digitsF
+    above-digitsF zero n = above-digit n
+    above-digitsF (suc f) n = go (ltb n 10) (above-digitsF f (n / 10))
+      where
+        go : (x : Bool) → Above b (digitsF f (n / 10)) → Above b (cond x [] (digitsF f (n / 10)) ++ digit n)
+        go true h = above-digit n
+        go false h = above-append (digitsF f (n / 10)) (digit n) h (above-digit n)
+
+    above-digits : (n : ℕ) → Above b (digits n)
+    unfolding digits
+    above-digits n = above-digitsF n n
+
+    pub above-text : (o : Operator) → Above b (textOf o)
+    above-text o =
+        subst (λ (l : List ℕ). Above b l) (sym (text-of o []) ∙ append-nil (textOf o))
+        (omega arith, above-append (nameOf (o .what)) _ (go (o .what)) (low, above-append (digits (o .at)) (41 ∷ []) (above-digits (o .at)) (omega arith, tt)))
+      where
+        go : (x : Step) → Above b (nameOf x)
+        go (act k) = (omega arith, above-digits k)
+        go (mth k) = (omega arith, above-digits k)
+
+noFeed-above : (cs ds : List ℕ) → Above 10 cs → T (noFeed ds) → T (noFeed (cs ++ ds))
+noFeed-above [] ds h k = k
+noFeed-above (c ∷ cs) ds h k = and-i (not (eqb c 10)) (noFeed (cs ++ ds)) (not-eqb c 10 (λ q. omega (arith, h .0))) (noFeed-above cs ds (h .1) k)
 
 noFeed-text : (o : Operator) (end : LineEnd) → T (noFeed (textOf o ++ beforeFeed end))
-noFeed-text o end =
-    subst (λ (l : List ℕ). T (noFeed l)) (sym (text-of o (beforeFeed end)))
-    (noFeed-append (nameOf (o .what)) _ (go (o .what)) (noFeed-append (digits (o .at)) (41 ∷ beforeFeed end) (noFeed-digits (o .at)) (ends end)))
+noFeed-text o end = noFeed-above (textOf o) (beforeFeed end) (above-text 10 (omega arith) o) (ends end)
   where
-    go : (x : Step) → T (noFeed (nameOf x))
-    go (act k) = noFeed-digits k
-    go (mth k) = noFeed-digits k
-
     ends : (end : LineEnd) → T (noFeed (beforeFeed end))
     ends byFeed = tt
     ends byReturn = tt

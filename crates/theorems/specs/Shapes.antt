@@ -16,6 +16,7 @@ pub record Small (o : Operator) : Type 0 where
   pub number : ThreeDigits (stepNumber (o .what))
   pub position : ThreeDigits (o .at)
 
+-- Those of a list's operators have.
 abbrev pub AllSmall : List Operator → Type 0
 AllSmall [] = Unit {0}
 AllSmall (o ∷ os) = Small o × AllSmall os
@@ -67,7 +68,7 @@ abbrev pub TextIs : List ℕ → List Line → Type 0
 TextIs ds [] = ds ≡ []
 TextIs ds (l ∷ ls) = (cs : List ℕ) × (rest : List ℕ) × Split ds cs rest × InShape cs l × TextIs rest ls
 
--- C-13: "each line on its own": a choice of line ends is one for each line, from 0; for the lines after the first it is what it was for these.
+-- C-13: "each line on its own": a choice of line ends is one for each line, from 0; the same choice, counted from the second line.
 abbrev pub onward : (ℕ → LineEnd) → ℕ → LineEnd
 onward end i = end (suc i)
 
