@@ -16,7 +16,7 @@ pub record Small (o : Operator) : Type 0 where
   pub number : ThreeDigits (stepNumber (o .what))
   pub position : ThreeDigits (o .at)
 
--- Those of a list's operators have.
+-- So have those of each operator of a list.
 abbrev pub AllSmall : List Operator → Type 0
 AllSmall [] = Unit {0}
 AllSmall (o ∷ os) = Small o × AllSmall os
@@ -68,7 +68,7 @@ abbrev pub TextIs : List ℕ → List Line → Type 0
 TextIs ds [] = ds ≡ []
 TextIs ds (l ∷ ls) = (cs : List ℕ) × (rest : List ℕ) × Split ds cs rest × InShape cs l × TextIs rest ls
 
--- C-13: "each line on its own": a choice of line ends is one for each line, from 0; the same choice, counted from the second line.
+-- C-13: "each line on its own": a choice of line ends has one for each line, from 0. This is the same choice, counted from the second line.
 abbrev pub onward : (ℕ → LineEnd) → ℕ → LineEnd
 onward end i = end (suc i)
 
