@@ -1,4 +1,6 @@
 // The check of a plan: each line's operator on the run, up to the first at fault, and a note of its row.
+#![tactic(auto)]
+
 ghost use Rattle.std.specs.Prelude.{◌≡◌, ◌≤◌, length};
 ghost use Rattle.rules.specs.Limits.{most_plan_bytes};
 ghost use Rattle.rules.specs.Plans.{lines_of};

@@ -1,4 +1,6 @@
 // How a run ends: with a verdict.
+#![tactic(auto)]
+
 ghost use Rattle.std.specs.Prelude.{◌≡◌, List, ℕ};
 ghost use Rattle.rules.specs.Checks.{verdict_of, finish};
 ghost use Rattle.words.specs.Words.{table_of, Held};

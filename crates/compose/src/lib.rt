@@ -1,4 +1,6 @@
 // The text of an operator's template, composed once from its row.
+#![tactic(auto)]
+
 ghost use Rattle.std.specs.Prelude.{◌≡◌, cond, ◌∷◌, ◌+◌, ◌*◌, ◌≤◌, length};
 ghost use Rattle.std.specs.Int.Count.{ones};
 ghost use Rattle.basics.specs.Texts.{digits, ThreeDigits};
@@ -127,7 +129,7 @@ fn prevails(
     let n = prevail_count(set, stay, task, bottom);
     let facts = fact_lines(t, pen, n, Says::Holds, top, set);
     let place = stack_lines::top_stays(t, lens, offs, facts, top, stay);
-    stack_lines::task_stays_lem(t, lens, offs, place, top, task, bottom)
+    stack_lines::task_stays(t, lens, offs, place, top, task, bottom)
 }
 
 // All lines that change something.

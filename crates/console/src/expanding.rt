@@ -3,8 +3,7 @@ ghost use Rattle.std.specs.Prelude.{◌≡◌, length};
 ghost use Rattle.basics.specs.Answers.{number_of, place_of, value_of};
 ghost use Rattle.rules.specs.Refusals.{expand_plan, written};
 
-#[unsafe(no_mangle)]
-pub extern "C" fn ildorzhen_expand_number(
+pub fn ildorzhen_expand_number(
     bound: u64,
     form: u64,
     table: &[u8],
@@ -16,8 +15,7 @@ pub extern "C" fn ildorzhen_expand_number(
     replies::number(judging::expanding::measure(bound, form, table, plan, steps.len()))
 }
 
-#[unsafe(no_mangle)]
-pub extern "C" fn ildorzhen_expand_place(
+pub fn ildorzhen_expand_place(
     bound: u64,
     form: u64,
     table: &[u8],
@@ -29,8 +27,7 @@ pub extern "C" fn ildorzhen_expand_place(
     replies::place(judging::expanding::measure(bound, form, table, plan, steps.len()))
 }
 
-#[unsafe(no_mangle)]
-pub extern "C" fn ildorzhen_expand_length(
+pub fn ildorzhen_expand_length(
     bound: u64,
     form: u64,
     table: &[u8],
@@ -42,8 +39,7 @@ pub extern "C" fn ildorzhen_expand_length(
     replies::value(judging::expanding::measure(bound, form, table, plan, steps.len()))
 }
 
-#[unsafe(no_mangle)]
-pub extern "C" fn ildorzhen_expand_write(
+pub fn ildorzhen_expand_write(
     bound: u64,
     form: u64,
     table: &[u8],

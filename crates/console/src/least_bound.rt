@@ -3,22 +3,19 @@ ghost use Rattle.std.specs.Prelude.{◌≡◌};
 ghost use Rattle.basics.specs.Answers.{number_of, place_of, value_of, itself};
 ghost use Rattle.rules.specs.Refusals.{find_least};
 
-#[unsafe(no_mangle)]
-pub extern "C" fn ildorzhen_least_number(form: u64, table: &[u8]) -> u64
+pub fn ildorzhen_least_number(form: u64, table: &[u8]) -> u64
     ensures { result ≡ number_of (find_least form table.now) }
 {
     replies::number(gauging::find_least(form, table))
 }
 
-#[unsafe(no_mangle)]
-pub extern "C" fn ildorzhen_least_place(form: u64, table: &[u8]) -> u64
+pub fn ildorzhen_least_place(form: u64, table: &[u8]) -> u64
     ensures { result ≡ place_of (find_least form table.now) }
 {
     replies::place(gauging::find_least(form, table))
 }
 
-#[unsafe(no_mangle)]
-pub extern "C" fn ildorzhen_least_bound(form: u64, table: &[u8]) -> u64
+pub fn ildorzhen_least_bound(form: u64, table: &[u8]) -> u64
     ensures { result ≡ value_of itself (find_least form table.now) }
 {
     replies::value(gauging::find_least(form, table))

@@ -3,8 +3,7 @@ ghost use Rattle.std.specs.Prelude.{◌≡◌, length};
 ghost use Rattle.basics.specs.Answers.{number_of, place_of, value_of};
 ghost use Rattle.rules.specs.Refusals.{one_section, written};
 
-#[unsafe(no_mangle)]
-pub extern "C" fn ildorzhen_section_number(
+pub fn ildorzhen_section_number(
     bound: u64,
     form: u64,
     table: &[u8],
@@ -17,8 +16,7 @@ pub extern "C" fn ildorzhen_section_number(
     replies::number(placing::measure(bound, form, table, index, text.len(), at))
 }
 
-#[unsafe(no_mangle)]
-pub extern "C" fn ildorzhen_section_place(
+pub fn ildorzhen_section_place(
     bound: u64,
     form: u64,
     table: &[u8],
@@ -31,8 +29,7 @@ pub extern "C" fn ildorzhen_section_place(
     replies::place(placing::measure(bound, form, table, index, text.len(), at))
 }
 
-#[unsafe(no_mangle)]
-pub extern "C" fn ildorzhen_section_length(
+pub fn ildorzhen_section_length(
     bound: u64,
     form: u64,
     table: &[u8],
@@ -45,8 +42,7 @@ pub extern "C" fn ildorzhen_section_length(
     replies::value(placing::measure(bound, form, table, index, text.len(), at))
 }
 
-#[unsafe(no_mangle)]
-pub extern "C" fn ildorzhen_section_write(
+pub fn ildorzhen_section_write(
     bound: u64,
     form: u64,
     table: &[u8],

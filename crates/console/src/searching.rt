@@ -3,8 +3,7 @@ ghost use Rattle.std.specs.Prelude.{◌≡◌, length};
 ghost use Rattle.basics.specs.Answers.{number_of, place_of, value_of};
 ghost use Rattle.rules.specs.Refusals.{applied_in, plan_bytes, search_plan, text_found, written};
 
-#[unsafe(no_mangle)]
-pub extern "C" fn ildorzhen_search_number(
+pub fn ildorzhen_search_number(
     bound: u64,
     form: u64,
     limit: u64,
@@ -17,8 +16,7 @@ pub extern "C" fn ildorzhen_search_number(
     replies::findings::number(seeking::measure(bound, form, limit, budget, table, text.len()))
 }
 
-#[unsafe(no_mangle)]
-pub extern "C" fn ildorzhen_search_place(
+pub fn ildorzhen_search_place(
     bound: u64,
     form: u64,
     limit: u64,
@@ -31,8 +29,7 @@ pub extern "C" fn ildorzhen_search_place(
     replies::findings::place(seeking::measure(bound, form, limit, budget, table, text.len()))
 }
 
-#[unsafe(no_mangle)]
-pub extern "C" fn ildorzhen_search_applied(
+pub fn ildorzhen_search_applied(
     bound: u64,
     form: u64,
     limit: u64,
@@ -45,8 +42,7 @@ pub extern "C" fn ildorzhen_search_applied(
     replies::findings::applied(seeking::measure(bound, form, limit, budget, table, text.len()))
 }
 
-#[unsafe(no_mangle)]
-pub extern "C" fn ildorzhen_search_length(
+pub fn ildorzhen_search_length(
     bound: u64,
     form: u64,
     limit: u64,
@@ -59,8 +55,7 @@ pub extern "C" fn ildorzhen_search_length(
     replies::findings::bytes(seeking::measure(bound, form, limit, budget, table, text.len()))
 }
 
-#[unsafe(no_mangle)]
-pub extern "C" fn ildorzhen_search_write(
+pub fn ildorzhen_search_write(
     bound: u64,
     form: u64,
     limit: u64,

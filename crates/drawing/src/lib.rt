@@ -1,4 +1,6 @@
 // A template's text as it is composed: each writer adds a piece to what is drawn.
+#![tactic(auto)]
+
 ghost use Rattle.std.specs.Prelude.{◌≤◌};
 ghost use Rattle.basics.specs.Texts.{ThreeDigits};
 ghost use Rattle.template.specs.Sizes.{most_offset};

@@ -1,4 +1,6 @@
 // The emitting program's work on its input: the whole problem as text, part by part, or one line that says the refusal.
+#![tactic(auto)]
+
 ghost use Rattle.std.specs.Prelude.{◌≡◌, List, ℕ, ◌≤◌, ◌<◌, length};
 ghost use Rattle.rules.specs.Programs.{emit_output};
 ghost use Rattle.words.specs.Words.{table_words, table_of};
@@ -10,39 +12,47 @@ ghost use Rattle.emission.specs.Jobs.{piece_of, piece_count, TableHeld, Stands, 
 
 use opening::Opening;
 use report::{Input, Part};
+use std::io;
 use template::FIGURE_BYTES;
 
 // What is read of the input, with the name that specs/Inputs of `report` has for it.
 pub const MOST_INPUT: usize = 2 + rules::limits::MOST_TABLE_BYTES + 1;
 
 // What there is to write: the problem of bound and form, or a refusal's number and place.
-#[derive(Drop)]
+#[derive(Clone, Copy)]
 enum Job {
     Problem(u64, u64),
     Refusal(u64, u64),
 }
 
 // What the program does with what it has read into the buffer.
-pub fn answer(buffer: &[u8], input: Input)
+pub fn answer<P: Print>(printer: &P, buffer: &[u8], input: Input) -> io::Result<()>
     requires { (most_emit_input ≤ length buffer.now) × (count_of input ≤ length buffer.now) }
 {
     let mut words = [0u64; words::SIZE];
     let mut figures = [0u8; FIGURE_BYTES];
     let job = open_read(buffer, input, &mut words, &mut figures);
     let mut out = parts::space();
-    send_parts(job, &words, &figures, &mut out);
+    send_parts(printer, job, &words, &figures, &mut out)
 }
 
 // Each part is sent as it is handed over.
-fn send_parts(job: Job, words: &[u64], figures: &[u8], out: &mut [u8])
+fn send_parts<P: Print>(
+    printer: &P,
+    job: Job,
+    words: &[u64],
+    figures: &[u8],
+    out: &mut [u8],
+) -> io::Result<()>
     requires { Stands job words.now figures.now × (part_bytes ≤ length out.old) }
 {
     let parts = piece_count(job, words);
     let mut next = 0;
     while next < parts {
         let part = put_part(job, words, figures, next, out);
-        next = report::send(out, part);
+        next = report::send(printer, out, part)?;
     }
+    Ok(())
 }
 
 // The job of the input from which the buffer was filled.
@@ -79,7 +89,7 @@ fn piece_count(job: Job, words: &[u64]) -> usize
 {
     match job {
         Job::Refusal(_, _) => 1,
-        Job::Problem(_, _) => parts::step_count_lem(words) + 2,
+        Job::Problem(_, _) => parts::step_count(words) + 2,
     }
 }
 

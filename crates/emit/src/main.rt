@@ -1,6 +1,10 @@
 // The emitting program: bound, form and table from standard input, the whole problem to standard output.
-fn main() {
+#![tactic(auto)]
+
+use std::io;
+
+fn main(rt: HostRuntime) -> io::Result<()> {
     let mut buffer = [0u8; emission::MOST_INPUT];
-    let input = report::read(&mut buffer);
-    emission::answer(&buffer, input);
+    let input = report::read(&mut rt.stdin(), &mut buffer)?;
+    emission::answer(&rt, &buffer, input)
 }

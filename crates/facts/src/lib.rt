@@ -1,4 +1,6 @@
 // Fact sets. Only this crate knows what a set is in memory: a mask, whose bit k stands for fact k.
+#![tactic(auto)]
+
 ghost use Rattle.std.specs.Prelude.{◌≡◌, ℕ, ◌+◌, ◌<◌, ◌≤◌, length};
 ghost use Rattle.std.specs.Int.Bits.{bit_or};
 ghost use Rattle.std.specs.Int.Count.{ones};
@@ -6,14 +8,12 @@ ghost use Rattle.rules.specs.Limits.{most_facts};
 ghost use Rattle.rules.specs.Facts.{has, holds, changed, without, members_of, join_one, no_join};
 ghost use Rattle.facts.specs.Sets.{set_words, set_of, set_at, set_put, members_read, action_read, join_read};
 
-use rules::limits::MOST_FACTS;
-
 // The words that a set takes, and an action: three sets and a cost.
 pub const WORDS: usize = 1;
 
 pub const ACTION_WORDS: usize = 3 * WORDS + 1;
 
-#[derive(Drop)]
+#[derive(Clone, Copy)]
 pub struct Set {
     bits: u64,
 }
@@ -57,7 +57,7 @@ pub fn count(s: Set) -> u64
 }
 
 // The facts of a set, rising: the lowest, and a set of the others. Of an empty set the number is one that no fact has.
-#[derive(Drop)]
+#[derive(Clone, Copy)]
 pub struct Members {
     pub fact: u64,
     pub others: Set,
@@ -118,7 +118,7 @@ pub fn altered(needs: Set, adds: Set, dels: Set) -> Set
 }
 
 // An action, as a table has it.
-#[derive(Drop)]
+#[derive(Clone, Copy)]
 pub struct Action {
     pub needs: Set,
     pub adds: Set,
@@ -139,7 +139,7 @@ pub fn action_of(needs: u64, adds: u64, dels: u64, cost: u64) -> Action
 }
 
 // The joined sets of some actions, one after the other; `dead`: they can never run so.
-#[derive(Drop)]
+#[derive(Clone, Copy)]
 pub struct Join {
     pub needs: Set,
     pub adds: Set,

@@ -1,6 +1,10 @@
 // The finding program: one table and the limits of the search from standard input, the text of the plan found to standard output.
-fn main() {
+#![tactic(auto)]
+
+use std::io;
+
+fn main(rt: HostRuntime) -> io::Result<()> {
     let mut buffer = [0u8; finding::MOST_INPUT];
-    let input = report::read(&mut buffer);
-    finding::answer(&buffer, input);
+    let input = report::read(&mut rt.stdin(), &mut buffer)?;
+    finding::answer(&rt, &buffer, input)
 }

@@ -1,4 +1,6 @@
 // A search of an opened table: its rows, linked, the walk over them, and the text of the plan found.
+#![tactic(auto)]
+
 ghost use Rattle.std.specs.Prelude.{◌≡◌, ◌≤◌, length};
 ghost use Rattle.std.proofs.Math.Option.{some};
 ghost use Rattle.rules.specs.Limits.{most_bound, most_limit, most_budget};

@@ -1,4 +1,6 @@
 // The finding program's work on its input: finding the parts, and writing the text of the plan found, or the refusal as one line.
+#![tactic(auto)]
+
 ghost use Rattle.std.specs.Prelude.{ℕ, ◌≤◌, ◌≡◌, List, length, take};
 ghost use Rattle.rules.specs.Refusals.{text_found, written};
 ghost use Rattle.rules.specs.Programs.{budget_in, find_input, find_output};
@@ -11,6 +13,7 @@ ghost use Rattle.report.specs.Parts.{next_of, size_of};
 use replies::Finding;
 use report::{Input, Part};
 use rules::limits::MOST_TABLE_BYTES;
+use std::io;
 
 // What is read of the input, with the name that specs/Inputs of `report` has for it.
 pub const MOST_INPUT: usize = 8 + MOST_TABLE_BYTES + 1;
@@ -19,12 +22,13 @@ pub const MOST_INPUT: usize = 8 + MOST_TABLE_BYTES + 1;
 const MOST_FOUND_BYTES: usize = 2560;
 
 // What the program does with what it has read into the buffer.
-pub fn answer(buffer: &[u8], input: Input)
+pub fn answer<P: Print>(printer: &P, buffer: &[u8], input: Input) -> io::Result<()>
     requires { (most_find_input ≤ length buffer.now) × (count_of input ≤ length buffer.now) }
 {
     let mut out = [0u8; MOST_FOUND_BYTES];
     let part = put_part(buffer, input, &mut out);
-    report::send(&out, part);
+    report::send(printer, &out, part)?;
+    Ok(())
 }
 
 // All that is written of the input from which the buffer was filled, as one part.

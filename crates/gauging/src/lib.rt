@@ -1,4 +1,6 @@
 // What is asked of a table with no plan and no text: how many sections its problem has, and its least bound.
+#![tactic(auto)]
+
 mod least_bound;
 mod sections;
 

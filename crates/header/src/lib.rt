@@ -1,4 +1,6 @@
 // What stands before the actions of a table: seven numbers, each checked against its range.
+#![tactic(auto)]
+
 ghost use Rattle.std.specs.Prelude.{◌≡◌, ◌+◌, ◌-◌, ◌≤◌};
 ghost use Rattle.rules.specs.Limits.{most_facts, most_tasks};
 ghost use Rattle.rules.specs.Tables.{all_facts, header};
@@ -8,7 +10,7 @@ use numbers::{Num, field};
 use rules::limits::{MOST_ACTIONS, MOST_FACTS, MOST_METHODS, MOST_TASKS};
 use rules::reasons::{NOT_THERE, OUT_OF_RANGE};
 
-#[derive(Drop)]
+#[derive(Clone, Copy)]
 pub struct Header {
     pub facts: u64,
     pub actions: u64,
@@ -19,7 +21,7 @@ pub struct Header {
     pub goal: u64,
 }
 
-#[derive(Drop)]
+#[derive(Clone, Copy)]
 pub enum OneHeader {
     Got(Header, usize),
     Bad(u64, usize),

@@ -1,4 +1,6 @@
 // A plan against a table: its check, and over it the expansion.
+#![tactic(auto)]
+
 ghost use Rattle.std.specs.Prelude.{◌≡◌, length};
 ghost use Rattle.rules.specs.Checks.{verdict_of};
 ghost use Rattle.rules.specs.Refusals.{check_plan, expand_plan, written};

@@ -1,5 +1,7 @@
 // Each kind of section, at the start of the part that is lent where there is room for it; its length. The section is measured
 // before the first byte is written.
+#![tactic(auto)]
+
 ghost use Rattle.std.specs.Prelude.{◌+◌, ◌*◌, ◌≤◌, ◌<◌};
 ghost use Rattle.basics.specs.Texts.{bytes};
 ghost use Rattle.version3.specs.Spelling.{preamble, middle};

@@ -1,4 +1,6 @@
 // The least bound of a table in words, for a form: found in rounds over its methods.
+#![tactic(auto)]
+
 ghost use Rattle.std.specs.Prelude.{◌≡◌, not, ◌||◌, ◌<◌, ◌≤◌, length, T};
 ghost use Rattle.rules.specs.Tables.{task_count, method_count, start_task};
 ghost use Rattle.rules.specs.LeastBounds.{bound_of, lowers, improve, round, settled, up_to_most, least_bound};

@@ -1,4 +1,6 @@
 // Where the lines of a plan text end. The last line feed is found first: up to it no byte is tested for being there.
+#![tactic(auto)]
+
 ghost use Rattle.std.specs.Prelude.{◌≡◌, ◌+◌, ◌<◌, eqb, length, get_or, drop};
 ghost use Rattle.line_ends.specs.Ends.{end_bytes, feed_at, Fed, Whole};
 

@@ -1,4 +1,6 @@
 // One line of a plan text, where a line feed is ahead.
+#![tactic(auto)]
+
 ghost use Rattle.std.specs.Prelude.{◌≡◌, ◌+◌};
 ghost use Rattle.rules.specs.Plans.{is_digit};
 ghost use Rattle.line_ends.specs.Ends.{Fed};
@@ -10,7 +12,7 @@ ghost use Rattle.lines.specs.declared.Digits.TheVariants.{Got};
 pub const SHORTEST_LINE: usize = 7;
 
 // Kind (0 action, 1 method), number, position and the next place; a comment and the next place; another shape.
-#[derive(Drop)]
+#[derive(Clone, Copy)]
 pub enum Line {
     Op(u64, u64, u64, usize),
     Comment(usize),
@@ -18,7 +20,7 @@ pub enum Line {
 }
 
 // A number and the place after it, or none.
-#[derive(Drop)]
+#[derive(Clone, Copy)]
 pub enum Digits {
     Got(u64, usize),
     No,

@@ -1,4 +1,6 @@
 // The rows of each task whose operators exist, linked once in the table's order: a walk goes from one to the next, past all others.
+#![tactic(auto)]
+
 ghost use Rattle.std.specs.Prelude.{◌≡◌, ◌+◌, ◌<◌, length};
 ghost use Rattle.rules.specs.Limits.{most_tasks};
 ghost use Rattle.words.specs.Words.{table_of};

@@ -1,4 +1,6 @@
 // The lines of the facts of a set. No other writer walks over a set.
+#![tactic(auto)]
+
 ghost use Rattle.std.specs.Prelude.{◌+◌, ◌≤◌, ◌<◌};
 ghost use Rattle.version3.specs.Spelling.{spell_setting, spell_effect};
 ghost use Rattle.rules.specs.Limits.{most_facts};
@@ -10,7 +12,7 @@ ghost use Rattle.listing.specs.Listings.{hold_bytes, change_bytes, before_bytes,
 use facts::Set;
 
 // What a list says of each of its facts: that it holds, or how it changes, by the facts that are needed and those that are deleted.
-#[derive(Drop)]
+#[derive(Clone, Copy)]
 pub enum Says {
     Holds,
     Changes(Set, Set),

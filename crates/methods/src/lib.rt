@@ -1,4 +1,6 @@
 // Reads the methods of a table into its words.
+#![tactic(auto)]
+
 ghost use Rattle.std.specs.Prelude.{◌+◌, ◌*◌, ◌≤◌, length};
 ghost use Rattle.basics.specs.Lists.{rows};
 ghost use Rattle.basics.specs.Readings.{many};

@@ -1,4 +1,6 @@
 // The section between the variables and the operators: state, goal, and how many operators there are.
+#![tactic(auto)]
+
 ghost use Rattle.std.specs.Prelude.{◌≡◌, cond, ◌+◌, ◌≤◌, ◌<◌};
 ghost use Rattle.basics.specs.Lists.{upto};
 ghost use Rattle.version3.specs.Spelling.{middle};

@@ -1,4 +1,6 @@
 // One number of a table: groups of seven bits, checked against a range; and what reading more of them into words comes to.
+#![tactic(auto)]
+
 ghost use Rattle.std.specs.Prelude.{◌≡◌, ◌+◌, ◌-◌, ◌*◌, ◌^◌, ◌≤◌, ◌<◌, length, drop, get_or};
 ghost use Rattle.std.proofs.Math.Seq.{slice};
 ghost use Rattle.rules.specs.Numbers.{groups_before, groups_value, sound, read_number, ranged};
@@ -8,14 +10,14 @@ ghost use Rattle.numbers.specs.Answers.{num_of};
 use rules::reasons::{BAD_NUMBER, NOT_THERE, TABLE_ENDS};
 
 // A number and the place after it, or a refusal's number and place.
-#[derive(Drop)]
+#[derive(Clone, Copy)]
 pub enum Num {
     Got(u64, usize),
     Bad(u64, usize),
 }
 
 // The place after what was read into words, or a refusal's number and place.
-#[derive(Drop)]
+#[derive(Clone, Copy)]
 pub enum Onward {
     To(usize),
     Bad(u64, usize),

@@ -1,5 +1,7 @@
 // The opening of a table, with which every entry begins. "Checks run in this order, an entry skipping what it lacks": bound, form,
 // a check of the entry's own, the table's length, another, the table.
+#![tactic(auto)]
+
 ghost use Rattle.std.specs.Prelude.{◌≤◌, length};
 ghost use Rattle.rules.specs.Refusals.{table_read, form_read, opened};
 ghost use Rattle.words.specs.Words.{table_words};
@@ -10,7 +12,7 @@ use rules::limits::{MOST_BOUND, MOST_TABLE_BYTES};
 use rules::reasons::{BAD_BOUND, BAD_FORM, TABLE_TOO_LONG};
 
 // The table stands in the words, or a refusal's number and place.
-#[derive(Drop)]
+#[derive(Clone, Copy)]
 pub enum Opening {
     Opened,
     Refused(u64, u64),

@@ -1,4 +1,6 @@
 // The operators of a table in words: what a method takes with it, where its operators exist, and how many there are.
+#![tactic(auto)]
+
 ghost use Rattle.std.specs.Prelude.{◌≡◌, cond, ◌≤◌, ◌<◌, length};
 ghost use Rattle.rules.specs.Limits.{most_bound};
 ghost use Rattle.rules.specs.Tables.{method_count};
@@ -10,7 +12,7 @@ ghost use Rattle.operators.specs.Prefixes.{IsPrefix};
 use facts::Join;
 
 // The actions that a method takes with it, joined, and how many they are.
-#[derive(Drop)]
+#[derive(Clone, Copy)]
 pub struct Prefix {
     pub join: Join,
     pub count: usize,

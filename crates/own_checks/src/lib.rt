@@ -1,4 +1,6 @@
 // The checks that an entry has of its own beside those of its table: a refusal's number, or 0 where it passes.
+#![tactic(auto)]
+
 ghost use Rattle.std.specs.Prelude.{◌≡◌};
 ghost use Rattle.rules.specs.Refusals.{plan_number, search_number};
 

@@ -1,4 +1,6 @@
 // The text of a whole problem, part by part: the sections before the operators, the operators of each step, the last section.
+#![tactic(auto)]
+
 ghost use Rattle.std.specs.Prelude.{◌≡◌, ◌+◌, ◌≤◌, ◌<◌, length};
 ghost use Rattle.basics.specs.Lists.{upto};
 ghost use Rattle.rules.specs.Limits.{most_bound, most_actions, most_methods};
@@ -42,7 +44,7 @@ pub fn put_problem(
         let size = put_front(words, bound, form, out);
         return report::part_of(1, size);
     }
-    let steps = step_count_lem(words);
+    let steps = step_count(words);
     if next <= steps {
         return fill(words, bound, form, figures, next, out);
     }
@@ -50,7 +52,7 @@ pub fn put_problem(
     report::part_of(steps + 2, size)
 }
 
-pub fn step_count_lem(words: &[u64]) -> usize
+pub fn step_count(words: &[u64]) -> usize
     requires { Held words.now }
     ensures value { result ≡ step_count (table_of words.now) }
     ensures upper_bound { result ≤ most_actions + most_methods }
@@ -89,7 +91,7 @@ fn fill(words: &[u64], bound: u64, form: u64, figures: &[u8], from: usize, out: 
     ensures moves { Moves (step_count (table_of words.now) + 1) from out.new result }
     ensures out_len_unchanged { length out.new ≡ length out.old }
 {
-    let steps = step_count_lem(words);
+    let steps = step_count(words);
     let room = out.len() - STEP_SPACE;
     let mut next = from;
     let mut size = 0;

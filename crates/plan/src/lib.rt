@@ -1,4 +1,6 @@
 // A plan against a table: its check, and the step list where it is accepted.
+#![tactic(auto)]
+
 ghost use Rattle.std.specs.Prelude.{◌≡◌, ◌≤◌, length};
 ghost use Rattle.rules.specs.Limits.{most_bound, most_plan_bytes};
 ghost use Rattle.rules.specs.Plans.{lines_of};

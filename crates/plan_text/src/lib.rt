@@ -1,4 +1,6 @@
 // The text of the operators in a trail, a line each. Lent no bytes, it is measured.
+#![tactic(auto)]
+
 ghost use Rattle.std.specs.Prelude.{◌++◌, ◌+◌, ◌*◌, ◌≤◌, length};
 ghost use Rattle.basics.specs.Texts.{bytes, ThreeDigits};
 ghost use Rattle.rules.specs.Limits.{most_limit};

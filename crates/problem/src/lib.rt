@@ -1,4 +1,6 @@
 // The problem that a table is turned into, section by section.
+#![tactic(auto)]
+
 ghost use Rattle.std.specs.Prelude.{◌≡◌, ◌+◌, ◌*◌, ◌≤◌, length};
 ghost use Rattle.rules.specs.Limits.{most_bound};
 ghost use Rattle.rules.specs.Tables.{action_count};
@@ -26,7 +28,7 @@ pub fn section_count(words: &[u64], bound: u64, form: u64) -> u64
 }
 
 // Where an operator stands: its step, and how many positions of that step come before it; or how far past the last it is.
-#[derive(Drop)]
+#[derive(Clone, Copy)]
 pub enum Found {
     Operator(usize, usize),
     Past(u64),

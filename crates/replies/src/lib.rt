@@ -1,4 +1,6 @@
 // The numbers of a reply, of a verdict and of a finding, one at a time.
+#![tactic(auto)]
+
 ghost use Rattle.std.specs.Prelude.{◌≡◌};
 ghost use Rattle.basics.specs.Answers.{number_of, place_of, value_of, reply_of, itself};
 ghost use Rattle.rules.specs.Checks.{verdict_of, cost_of, operators_in, steps_in};
@@ -9,7 +11,7 @@ use rules::Verdict;
 pub mod findings;
 
 // How many bytes the text of the plan found takes, and how many operators were applied; or a refusal's number and place.
-#[derive(Drop)]
+#[derive(Clone, Copy)]
 pub enum Finding {
     Plan(u64, u64),
     Refused(u64, u64),

@@ -1,5 +1,7 @@
 // What the programs share: the bytes of their input, the line that they write, from the start of the caller's text, and sending it.
-ghost use Rattle.std.specs.Prelude.{◌≡◌, ◌∷◌, ◌+◌, ◌*◌, ◌≤◌, min, length, get_or};
+#![tactic(auto)]
+
+ghost use Rattle.std.specs.Prelude.{◌≡◌, ◌∷◌, ◌+◌, ◌*◌, ◌≤◌, min, length, get_or, IfOk, OnErr};
 ghost use Rattle.basics.specs.Texts.{digits};
 ghost use Rattle.rules.specs.Programs.{accepted_line, refused_line};
 ghost use Rattle.text.specs.Appends.{Appends};
@@ -7,30 +9,39 @@ ghost use Rattle.report.specs.Reports.{word_room, line_room};
 ghost use Rattle.report.specs.Inputs.{most_size, count_of, ReadFrom};
 ghost use Rattle.report.specs.Parts.{next_of, size_of};
 
-use libc::{STDIN_FILENO, STDOUT_FILENO};
+use std::io;
+use std::io::Read;
 
 // Room for a line. The contracts say it by the name of specs/Reports.
 pub const LINE_ROOM: usize = 80;
 
 // What a program has read: how many bytes. Its field is private, so that a program hands it on as it is.
-#[derive(Drop)]
+#[derive(Clone, Copy)]
 pub struct Input {
     count: usize,
 }
 
 // A part of what a program writes, at the start of a text: the piece that comes after it, and how many bytes it has. Private as well.
-#[derive(Drop)]
+#[derive(Clone, Copy)]
 pub struct Part {
     next: usize,
     size: usize,
 }
 
-// Standard input, as much as the buffer holds.
-pub fn read(buffer: &mut [u8]) -> Input
-    ensures { count_of result ≤ length buffer.new }
+// What a reader gives, as much as the buffer holds. Where a read fails the buffer keeps its length.
+pub fn read<R: Read>(reader: &mut R, buffer: &mut [u8]) -> io::Result<Input>
+    ensures ok { IfOk result (λ input. count_of input ≤ length buffer.new) }
+    ensures err { OnErr result (length buffer.new ≡ length buffer.old) }
 {
-    let count = io::read_full(STDIN_FILENO, buffer);
-    Input { count }
+    let mut count = 0;
+    while count < buffer.len() {
+        let more = reader.read(&mut buffer[count..])?;
+        if more == 0 {
+            break;
+        }
+        count += more;
+    }
+    Ok(Input { count })
 }
 
 // Other bytes, put into the buffer as they would have been read.
@@ -111,18 +122,18 @@ pub fn refused(out: &mut [u8], number: u64, place: u64) -> usize
     text::put(out, end, b"\n")
 }
 
-// The first bytes of a text, to standard output.
-pub fn send_text(text: &[u8], count: usize)
+// The first bytes of a text, to where the program prints.
+pub fn send_text<P: Print>(printer: &P, text: &[u8], count: usize) -> io::Result<()>
     requires { count ≤ length text.now }
 {
-    io::write_all(STDOUT_FILENO, &text[0..count]);
+    printer.write_all(&text[0..count])
 }
 
 // A part, from the text that it stands in; what comes after it.
-pub fn send(text: &[u8], part: Part) -> usize
+pub fn send<P: Print>(printer: &P, text: &[u8], part: Part) -> io::Result<usize>
     requires { size_of part ≤ length text.now }
-    ensures { result ≡ next_of part }
+    ensures { IfOk result (λ next. next ≡ next_of part) }
 {
-    send_text(text, part.size);
-    part.next
+    send_text(printer, text, part.size)?;
+    Ok(part.next)
 }

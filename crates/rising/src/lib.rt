@@ -1,4 +1,6 @@
 // How high a method of a table in words rises, in a form, with bounds for its tasks.
+#![tactic(auto)]
+
 ghost use Rattle.std.specs.Prelude.{◌≡◌, ◌<◌, ◌≤◌, max, length};
 ghost use Rattle.rules.specs.Tables.{task_count, method_count};
 ghost use Rattle.rules.specs.Progression.{prefix};

@@ -1,4 +1,6 @@
 // Room for what there is to write, by its length alone.
+#![tactic(auto)]
+
 ghost use Rattle.std.specs.Prelude.{◌≡◌};
 ghost use Rattle.basics.specs.Answers.{after, reply_of};
 ghost use Rattle.rules.specs.Refusals.{room_of};

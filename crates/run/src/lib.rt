@@ -1,4 +1,6 @@
 // A run: how it begins, and what it does with one operator, by its prepared row.
+#![tactic(auto)]
+
 ghost use Rattle.std.specs.Prelude.{◌≡◌, ◌<◌, ◌≤◌, length};
 ghost use Rattle.rules.specs.Limits.{most_actions, most_methods, most_bound};
 ghost use Rattle.laws.specs.Steps.{kind_step, kind_operator};
@@ -14,7 +16,7 @@ use rows::row;
 use rules::reasons;
 
 // What a run counts, its stack apart.
-#[derive(Drop)]
+#[derive(Clone, Copy)]
 pub struct Progress {
     pub facts: Set,
     pub height: usize,
@@ -24,7 +26,7 @@ pub struct Progress {
 }
 
 // A refusal's number, or 0, and the progress after it, or as it was.
-#[derive(Drop)]
+#[derive(Clone, Copy)]
 pub struct Turned {
     pub number: u64,
     pub progress: Progress,
@@ -104,7 +106,7 @@ pub fn turn(
 }
 
 // What an operator comes to, and its row where it is applied.
-#[derive(Drop)]
+#[derive(Clone, Copy)]
 pub struct Operated {
     pub row: usize,
     pub turned: Turned,
@@ -177,7 +179,7 @@ pub fn begin(words: &[u64], stack: &mut [u16; row::STACK]) -> Progress
 }
 
 // A run by value.
-#[derive(Drop)]
+#[derive(Clone, Copy)]
 pub struct Run {
     pub bound: u64,
     pub form: u64,
@@ -189,7 +191,7 @@ pub struct Run {
     pub cost: u64,
 }
 
-#[derive(Drop)]
+#[derive(Clone, Copy)]
 pub struct Stepped {
     pub number: u64,
     pub run: Run,

@@ -1,5 +1,7 @@
 // The depth-first search over prepared rows: each applicable operator in turn, and what follows it before the next. It calls nothing
 // that calls itself: what it has to come back to stands on the trail, and of the stack one task is put back.
+#![tactic(auto)]
+
 ghost use Rattle.std.specs.Prelude.{◌≡◌, ◌≤◌, length};
 ghost use Rattle.rules.specs.Limits.{most_limit, most_budget};
 ghost use Rattle.rules.specs.Progression.{begin};
@@ -15,7 +17,7 @@ use spots::SAVED;
 
 // How a walk ends: above the budget; with no plan; or with the plan that the trail begins with, so many operators. The number of
 // operators applied comes first.
-#[derive(Drop)]
+#[derive(Clone, Copy)]
 pub enum Walk {
     Over,
     Missing(u64),

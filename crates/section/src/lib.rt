@@ -1,4 +1,6 @@
 // One section of a problem.
+#![tactic(auto)]
+
 ghost use Rattle.std.specs.Prelude.{◌≡◌, ◌≤◌, length};
 ghost use Rattle.basics.specs.Answers.{reply_of, length_of};
 ghost use Rattle.rules.specs.Limits.{most_bound};

@@ -1,4 +1,6 @@
 // Search for a plan: the table opened, sought through, and the answer for a text of the caller's size.
+#![tactic(auto)]
+
 ghost use Rattle.std.specs.Prelude.{◌≡◌, length};
 ghost use Rattle.basics.specs.Answers.{after};
 ghost use Rattle.rules.specs.Refusals.{search_plan, text_found, written};

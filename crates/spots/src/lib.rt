@@ -1,4 +1,6 @@
 // Where a walk over prepared rows stands, and how it goes from there: on to the next row, down a level, back up.
+#![tactic(auto)]
+
 ghost use Rattle.std.specs.Prelude.{◌≡◌, List, ℕ, ◌+◌, ◌-◌, ◌*◌, ◌≤◌, ◌<◌, false, length, set};
 ghost use Rattle.rules.specs.Limits.{most_bound, most_tasks, most_limit};
 ghost use Rattle.rules.specs.Searches.{complete};
@@ -15,7 +17,7 @@ use rows::row;
 use rules::limits;
 
 // Where a walk stands: its facts, the height of its stack, and the row to be tried.
-#[derive(Drop)]
+#[derive(Clone, Copy)]
 pub struct Spot {
     pub facts: Set,
     pub height: usize,
@@ -86,7 +88,7 @@ pub fn past(at: Spot, links: &[u16]) -> Spot
 }
 
 // Whether a row's operator was applied, and where it was, the facts and the height after it.
-#[derive(Drop)]
+#[derive(Clone, Copy)]
 pub struct Tried {
     pub applied: bool,
     pub facts: Set,

@@ -1,4 +1,6 @@
 // The lines of the stack in an operator's template: the top, the place of the task, and the places above it.
+#![tactic(auto)]
+
 ghost use Rattle.std.specs.Prelude.{◌≤◌, ◌<◌};
 ghost use Rattle.basics.specs.Texts.{ThreeDigits};
 ghost use Rattle.rules.specs.Limits.{most_facts, most_subtasks};
@@ -28,7 +30,7 @@ pub fn top_stays(
 }
 
 // The place of the task, where the same task is left there.
-pub fn task_stays_lem(
+pub fn task_stays(
     t: &mut [u8],
     lens: &mut [usize],
     offs: &mut [usize],

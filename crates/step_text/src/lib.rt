@@ -1,4 +1,6 @@
 // The operators of one step as text: their template, composed once, and all of them at the positions that they exist at.
+#![tactic(auto)]
+
 ghost use Rattle.std.specs.Prelude.{◌≡◌, ◌+◌, ◌*◌, ◌≤◌, ◌<◌, length};
 ghost use Rattle.rules.specs.Limits.{most_bound};
 ghost use Rattle.rules.specs.Tables.{fact_count, task_count, action_count, method_count};
@@ -16,7 +18,7 @@ use rows::row;
 use template::{MOST_NUMBERS, Pen, TEMPLATE_BYTES};
 
 // The letter and the number of a step's name.
-#[derive(Drop)]
+#[derive(Clone, Copy)]
 struct Label {
     letter: u8,
     number: u64,
@@ -72,7 +74,7 @@ fn compose_row(
 }
 
 // A step's template, and at how many positions it has an operator.
-#[derive(Drop)]
+#[derive(Clone, Copy)]
 pub struct Composed {
     pub pen: Pen,
     pub count: usize,

@@ -1,4 +1,6 @@
 // Reads a table: a row of numbers, each checked against its range.
+#![tactic(auto)]
+
 ghost use Rattle.std.specs.Prelude.{◌≡◌, ◌+◌, ◌*◌, ◌≤◌, length};
 ghost use Rattle.basics.specs.Lists.{rows};
 ghost use Rattle.basics.specs.Readings.{many};
@@ -15,7 +17,7 @@ use rules::limits::MOST_COST;
 use rules::reasons::{BYTES_AFTER_TABLE, OUT_OF_RANGE};
 use words::{HEADER, PER_ACTION};
 
-#[derive(Drop)]
+#[derive(Clone, Copy)]
 enum OneAction {
     Got(Action, usize),
     Bad(u64, usize),

@@ -1,73 +1,78 @@
 // What a call says, as text.
-ghost use Rattle.std.specs.Prelude.{◌≤◌, ◌<◌, length};
+#![tactic(auto)]
 
-pub fn refusal(number: u64, place: u64) {
+ghost use Rattle.std.specs.Prelude.{◌≤◌, ◌<◌, length, IfOk};
+
+use std::io;
+
+pub fn refusal<P: Print>(printer: &P, number: u64, place: u64) -> io::Result<()> {
     let mut line = [0u8; 80];
     let size = report::refused(&mut line, number, place);
-    report::send_text(&line, size);
+    report::send_text(printer, &line, size)
 }
 
 // A short text and a number.
-pub fn field(word: &[u8], n: u64)
+pub fn field<P: Print>(printer: &P, word: &[u8], n: u64) -> io::Result<()>
     requires { length word.now ≤ 20 }
 {
     let mut line = [0u8; 40];
     let next = text::put(&mut line, 0, word);
     let size = text::put_number(&mut line, next, n);
-    report::send_text(&line, size);
+    report::send_text(printer, &line, size)
 }
 
 // The refusal, or the value under its name, as one line.
-pub fn answer(name: &[u8], number: u64, place: u64, value: u64)
+pub fn answer<P: Print>(printer: &P, name: &[u8], number: u64, place: u64, value: u64) -> io::Result<()>
     requires { length name.now ≤ 20 }
 {
     if number != 0 {
-        refusal(number, place);
-        return;
+        return refusal(printer, number, place);
     }
-    field(name, value);
-    report::send_text(b"\n", 1);
+    field(printer, name, value)?;
+    report::send_text(printer, b"\n", 1)
 }
 
-fn spaced(n: u64) {
-    field(b" ", n);
+fn spaced<P: Print>(printer: &P, n: u64) -> io::Result<()> {
+    field(printer, b" ", n)
 }
 
 // A name and numbers, as one line.
-pub fn numbers(name: &[u8], numbers: &[u64]) {
-    report::send_text(name, name.len());
-    number_fields(numbers);
-    report::send_text(b"\n", 1);
+pub fn numbers<P: Print>(printer: &P, name: &[u8], numbers: &[u64]) -> io::Result<()> {
+    report::send_text(printer, name, name.len())?;
+    number_fields(printer, numbers)?;
+    report::send_text(printer, b"\n", 1)
 }
 
-fn number_fields(numbers: &[u64]) {
+fn number_fields<P: Print>(printer: &P, numbers: &[u64]) -> io::Result<()> {
     let mut i = 0;
     while i < numbers.len() {
-        spaced(numbers[i]);
+        spaced(printer, numbers[i])?;
         i += 1;
     }
+    Ok(())
 }
 
 // A step list, word by word, as one line.
-pub fn steps(bytes: &[u8]) {
-    report::send_text(b"steps", 5);
-    words(bytes);
-    report::send_text(b"\n", 1);
+pub fn steps<P: Print>(printer: &P, bytes: &[u8]) -> io::Result<()> {
+    report::send_text(printer, b"steps", 5)?;
+    words(printer, bytes)?;
+    report::send_text(printer, b"\n", 1)
 }
 
-fn words(bytes: &[u8]) {
+fn words<P: Print>(printer: &P, bytes: &[u8]) -> io::Result<()> {
     let mut at = 0;
     while at < bytes.len() {
-        at = word(bytes, at);
+        at = word(printer, bytes, at)?;
     }
+    Ok(())
 }
 
 // The word at a place, low byte first; where the next one stands.
-fn word(bytes: &[u8], at: usize) -> usize
+fn word<P: Print>(printer: &P, bytes: &[u8], at: usize) -> io::Result<usize>
     requires { at < length bytes.now }
-    ensures { at < result }
+    ensures { IfOk result (λ next. at < next) }
 {
     let step = report::two_bytes(report::byte(bytes, at), report::byte(bytes, at + 1));
-    spaced(step as u64);
-    at + 2
+    spaced(printer, step as u64)?;
+    Ok(at + 2)
 }

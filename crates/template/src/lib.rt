@@ -1,5 +1,7 @@
 // Text that is composed once and rendered at each position. Writers here move a chunk of bytes at a time, so they may also
 // change as many bytes after what they write; `put_exactly` alone changes none.
+#![tactic(auto)]
+
 ghost use Rattle.std.specs.Prelude.{◌≡◌, List, [], ◌∷◌, ◌++◌, ℕ, ◌+◌, ◌*◌, ◌-◌, ◌≤◌, ◌<◌, length, take, drop};
 ghost use Rattle.basics.specs.Lists.{upto};
 ghost use Rattle.basics.specs.Texts.{digits, ThreeDigits};
@@ -34,7 +36,7 @@ pub const TEMPLATE_BYTES: usize = OPERATOR_BYTES + MARGIN;
 pub const STEP_TEXT_BYTES: usize = OPERATOR_BYTES * MOST_BOUND as usize;
 
 // Where a template is being written: the next byte, where the open segment begins, and how many numbers stand before it.
-#[derive(Drop)]
+#[derive(Clone, Copy)]
 pub struct Pen {
     pub at: usize,
     pub from: usize,

@@ -1,5 +1,7 @@
 // Bytes, decimal numbers and lines, each written at a place in text that is lent; the place after it is handed back. Where the text
 // ends before that place, it is only counted: lent no text at all, a writer measures.
+#![tactic(auto)]
+
 ghost use Rattle.std.specs.Prelude.{◌≡◌, [], ◌∷◌, ◌++◌, ◌+◌, ◌%◌, ◌≤◌, ◌<◌, length};
 ghost use Rattle.std.proofs.lemmas.List.Edits.{sets};
 ghost use Rattle.basics.specs.Texts.{digits, ThreeDigits};

@@ -12,7 +12,7 @@ use Rattle.basics.specs.Answers.{Answer, answer, after}
 use Rattle.rules.specs.Limits.{most_bound, most_table_bytes, most_plan_bytes}
 use Rattle.rules.specs.Reasons.{bad_bound, bad_form, table_too_long}
 use Rattle.rules.specs.Tables.{Table}
-use Rattle.rules.specs.Progression.{State, Step, act, mth, height, allowed, after_all, begin, total_cost}
+use Rattle.rules.specs.Progression.{State, Step, act, mth, height, due, allowed, after_all, begin, total_cost}
 use Rattle.rules.specs.Operators.{Operator, expand, expand_all}
 use Rattle.rules.specs.Plans.{Line, oper, lines_of, opers_of, shaped, texts_of}
 use Rattle.rules.specs.Checks.{Tally, accepted, check_lines, step_bytes}
@@ -65,8 +65,8 @@ small b f t v l (o ∷ os) s e h r =
 -- The steps of a run are the table's, so each fits its word.
 numbered : (t : Table) → Valid t → (f b o : ℕ) (s : State) (xs : List Step) → Run b f t o s xs → Numbered xs
 numbered t v f b o s [] r = tt
-numbered t v f b o s (act k ∷ xs) r = let q = known t s (act k) r.0 in (omega (arith, v.head.actions), numbered t v f b _ _ xs r.2)
-numbered t v f b o s (mth k ∷ xs) r = let q = known t s (mth k) r.0 in (omega (arith, v.head.methods), numbered t v f b _ _ xs r.2)
+numbered t v f b o s (act k ∷ xs) r = let q = known t s (act k) r.0 in (omega (arith, v.head.actions), numbered t v f b (due f t o (act k)) _ xs r.2)
+numbered t v f b o s (mth k ∷ xs) r = let q = known t s (mth k) r.0 in (omega (arith, v.head.methods), numbered t v f b (due f t o (mth k)) _ xs r.2)
 
 -- What is opened is in range, passed the entry's own checks, and its table was read.
 pub form_given : (early late f : ℕ) (s : List ℕ) (t : Table) → form_read early late f s ≡ answer t → GivenForm f s t × (late ≡ 0) × (early ≡ 0)

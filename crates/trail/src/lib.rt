@@ -1,4 +1,6 @@
 // A walk's operators in memory, in turn: of each the row and the position. Only this crate knows where they stand.
+#![tactic(auto)]
+
 ghost use Rattle.std.specs.Prelude.{◌≡◌, ◌+◌, ◌*◌, ◌≤◌, ◌<◌, length};
 ghost use Rattle.rules.specs.Limits.{most_bound};
 ghost use Rattle.rows.specs.Sizes.{most_rows};

@@ -1,4 +1,6 @@
 // The sections before the middle one: the preamble, and one for each variable.
+#![tactic(auto)]
+
 ghost use Rattle.std.specs.Prelude.{◌+◌, ◌≤◌, ◌<◌, length};
 ghost use Rattle.basics.specs.Lists.{upto};
 ghost use Rattle.basics.specs.Texts.{ThreeDigits};

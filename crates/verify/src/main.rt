@@ -1,6 +1,10 @@
 // The checking program: one table and one plan from standard input, one line to standard output.
-fn main() {
+#![tactic(auto)]
+
+use std::io;
+
+fn main(rt: HostRuntime) -> io::Result<()> {
     let mut buffer = [0u8; verifying::MOST_INPUT];
-    let input = report::read(&mut buffer);
-    verifying::answer(&buffer, input);
+    let input = report::read(&mut rt.stdin(), &mut buffer)?;
+    verifying::answer(&rt, &buffer, input)
 }

@@ -1,4 +1,6 @@
 // The checking program's work on its input: finding the parts, and writing the verdict as one line.
+#![tactic(auto)]
+
 ghost use Rattle.std.specs.Prelude.{ℕ, ◌≤◌, ◌≡◌, List, length, take};
 ghost use Rattle.rules.specs.Checks.{verdict_of};
 ghost use Rattle.rules.specs.Programs.{size_in, check_input, check_output};
@@ -10,17 +12,19 @@ ghost use Rattle.report.specs.Parts.{next_of, size_of};
 use report::{Input, Part};
 use rules::Verdict;
 use rules::limits::{MOST_PLAN_BYTES, MOST_TABLE_BYTES};
+use std::io;
 
 // What is read of the input, with the name that specs/Inputs of `report` has for it.
 pub const MOST_INPUT: usize = 4 + MOST_TABLE_BYTES + MOST_PLAN_BYTES + 1;
 
 // What the program does with what it has read into the buffer.
-pub fn answer(buffer: &[u8], input: Input)
+pub fn answer<P: Print>(printer: &P, buffer: &[u8], input: Input) -> io::Result<()>
     requires { (most_check_input ≤ length buffer.now) × (count_of input ≤ length buffer.now) }
 {
     let mut out = [0u8; report::LINE_ROOM];
     let part = put_part(buffer, input, &mut out);
-    report::send(&out, part);
+    report::send(printer, &out, part)?;
+    Ok(())
 }
 
 // All that is written of the input from which the buffer was filled, as one part.

@@ -1,4 +1,6 @@
 // A table in memory, number by number: callers need not know where anything stands.
+#![tactic(auto)]
+
 ghost use Rattle.std.specs.Prelude.{◌≡◌, ◌+◌, ◌≤◌, ◌<◌, length, get_or, take};
 ghost use Rattle.rules.specs.Tables.{fact_count, action_count, task_count, method_count, start_task, start_facts, goal_facts, action, method};
 ghost use Rattle.facts.specs.Sets.{set_of, action_read};

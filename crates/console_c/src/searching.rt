@@ -1,0 +1,75 @@
+// Search for a plan.
+ghost use Rattle.std.specs.Prelude.{◌≡◌, length};
+ghost use Rattle.basics.specs.Answers.{number_of, place_of, value_of};
+ghost use Rattle.rules.specs.Refusals.{applied_in, plan_bytes, search_plan, text_found, written};
+
+#[unsafe(no_mangle)]
+pub extern "C" fn ildorzhen_search_number(
+    bound: u64,
+    form: u64,
+    limit: u64,
+    budget: u64,
+    table: &[u8],
+    text: &[u8],
+) -> u64
+    ensures { result ≡ number_of (search_plan bound form limit budget table.now (length text.now)) }
+{
+    console::searching::ildorzhen_search_number(bound, form, limit, budget, table, text)
+}
+
+#[unsafe(no_mangle)]
+pub extern "C" fn ildorzhen_search_place(
+    bound: u64,
+    form: u64,
+    limit: u64,
+    budget: u64,
+    table: &[u8],
+    text: &[u8],
+) -> u64
+    ensures { result ≡ place_of (search_plan bound form limit budget table.now (length text.now)) }
+{
+    console::searching::ildorzhen_search_place(bound, form, limit, budget, table, text)
+}
+
+#[unsafe(no_mangle)]
+pub extern "C" fn ildorzhen_search_applied(
+    bound: u64,
+    form: u64,
+    limit: u64,
+    budget: u64,
+    table: &[u8],
+    text: &[u8],
+) -> u64
+    ensures { result ≡ value_of applied_in (search_plan bound form limit budget table.now (length text.now)) }
+{
+    console::searching::ildorzhen_search_applied(bound, form, limit, budget, table, text)
+}
+
+#[unsafe(no_mangle)]
+pub extern "C" fn ildorzhen_search_length(
+    bound: u64,
+    form: u64,
+    limit: u64,
+    budget: u64,
+    table: &[u8],
+    text: &[u8],
+) -> u64
+    ensures { result ≡ value_of plan_bytes (search_plan bound form limit budget table.now (length text.now)) }
+{
+    console::searching::ildorzhen_search_length(bound, form, limit, budget, table, text)
+}
+
+#[unsafe(no_mangle)]
+pub extern "C" fn ildorzhen_search_write(
+    bound: u64,
+    form: u64,
+    limit: u64,
+    budget: u64,
+    table: &[u8],
+    text: &mut [u8],
+) -> u64
+    ensures value { result ≡ value_of plan_bytes (search_plan bound form limit budget table.now (length text.old)) }
+    ensures text_after { text.new ≡ written text.old 0 (text_found (search_plan bound form limit budget table.now (length text.old))) }
+{
+    console::searching::ildorzhen_search_write(bound, form, limit, budget, table, text)
+}

@@ -1,0 +1,19 @@
+use mathlib.Core.Path.{◌≡◌, refl, sym, subst, ◌∙◌}
+use mathlib.Core.Bool.{false, cond}
+use Prim.Native.Nat.{◌+◌}
+use native.Mathlib.Omega.{arith}
+use lib.ListN.{length}
+use lib.Dec.{T}
+use Rattle.rules.specs.Tables.{method_count}
+use Rattle.rules.specs.LeastBounds.{settled, total}
+use Rattle.laws.specs.Bounds.{Kept}
+use Rattle.laws.proofs.RoundLaws.{rounded, round_length, round_settles, round_falls}
+use Rattle.words.specs.Words.{table_of}
+use Rattle.least.proofs.settle.Given as goal
+
+abbrev pub invariant-loop-again : goal.invariant-loop-again
+invariant-loop-again l =
+    Kept l.form (table_of l.words) l.bounds × (l.again ≡ false → T (settled l.form (table_of l.words) l.bounds (method_count (table_of l.words)))) × (length l.bounds ≡ length l.initial.bounds)
+
+abbrev pub decreases-loop-again : goal.decreases-loop-again
+decreases-loop-again l = total l.bounds + cond l.again 1 0

@@ -1,0 +1,22 @@
+use Rattle.numbers.specs.declared.Onward.{Onward}
+use mathlib.Core.Path.{◌≡◌, refl, sym, subst, ◌∙◌}
+use Prim.Native.Nat.{ℕ, ◌≤◌, ◌-◌, ◌+◌, ◌*◌}
+use native.Mathlib.Omega.{arith}
+use lib.ListN.{length, take}
+use Rattle.basics.specs.Readings.{got, many}
+use Rattle.rules.specs.Tables.{read_method}
+use Rattle.words.specs.Words.{method_of, per_method, first_method}
+use Rattle.basics.specs.Lists.{rows}
+use Rattle.numbers.specs.Answers.{onward_of}
+use Rattle.laws.proofs.AnswerLaws.{via}
+use Rattle.laws.proofs.ReadingLaws.{many_bad, turn}
+use Rattle.methods.proofs.MethodLaws.{method_kept}
+use Rattle.laws.proofs.StoreLaws.{kept_less}
+use borrow.Author.Rules.{rules}
+use Rattle.methods.proofs.read_methods.Given as goal
+
+abbrev pub invariant-loop-k : goal.invariant-loop-k
+invariant-loop-k l = (l.k ≤ l.n) × (length l.words ≡ length l.initial.words) × (take first_method l.words ≡ take first_method l.initial.words) × (many (read_method l.s l.lo l.hi) l.k l.at ≡ got (rows (method_of l.words) l.k) l.p)
+
+abbrev pub decreases-loop-k : goal.decreases-loop-k
+decreases-loop-k l = l.n - l.k

@@ -1,0 +1,28 @@
+use Prim.Native.Nat.{◌<◌, ◌-◌, ◌+◌}
+use mathlib.Core.Path.{◌≡◌}
+use native.Mathlib.Omega.{arith}
+use lib.ListN.{length, drop}
+use Rattle.rules.specs.Numbers.{groups_before}
+use Rattle.laws.proofs.NumberLaws.{run_end, run_stop, run_more}
+use borrow.Author.Rules.{rules}
+use Rattle.numbers.proofs.last.Goals as goal
+
+pub returns-then-s-i-lt128 : goal.returns-then-s-i-lt128
+returns-then-s-i-lt128 c =
+    let i = c.loop-i.i in
+    let s = c.args.s.now in
+    let h : i < length s = omega arith in
+    omega (arith, run_stop s i h c.if-s-i-lt128.true)
+
+pub loop-i-preserved : goal.loop-i-preserved
+loop-i-preserved c =
+    let i = c.loop-i.i in
+    let s = c.args.s.now in
+    let h : i < length s = omega arith in
+    omega (arith, run_more s i h c.if-s-i-lt128.false)
+
+pub returns : goal.returns
+returns c =
+    let i = c.loop-i.i in
+    let s = c.args.s.now in
+    omega (arith, run_end s i c.loop-i-test.false)

@@ -1,0 +1,14 @@
+use Prim.Native.Nat.{◌<◌, ◌-◌, ◌+◌}
+use mathlib.Core.Path.{◌≡◌}
+use native.Mathlib.Omega.{arith}
+use lib.ListN.{length, drop}
+use Rattle.rules.specs.Numbers.{groups_before}
+use Rattle.laws.proofs.NumberLaws.{run_end, run_stop, run_more}
+use borrow.Author.Rules.{rules}
+use Rattle.numbers.proofs.last.Given as goal
+
+abbrev pub invariant-loop-i : goal.invariant-loop-i
+invariant-loop-i l = (l.i + groups_before (drop l.i l.s) ≡ l.at + groups_before (drop l.at l.s))
+
+abbrev pub decreases-loop-i : goal.decreases-loop-i
+decreases-loop-i l = length l.s - l.i

@@ -1,0 +1,15 @@
+use mathlib.Core.Path.{◌≡◌, ap, sym, subst, ◌∙◌}
+use Prim.Native.Nat.{ℕ, suc, ◌%◌, ◌≤◌, ◌<◌, ◌-◌, ◌+◌, ◌*◌, ◌^◌}
+use native.Mathlib.Omega.{arith}
+use lib.ListN.{length}
+use lib.Seq.{slice}
+use Rattle.rules.specs.Numbers.{groups_value}
+use Rattle.laws.proofs.NumberLaws.{spell_one, spell_prev, room, room_fits}
+use borrow.Author.Rules.{rules}
+use Rattle.numbers.proofs.value.Given as goal
+
+abbrev pub invariant-loop-i : goal.invariant-loop-i
+invariant-loop-i l = (l.at ≤ l.i) × (l.i ≤ l.e) × (l.v ≡ groups_value (slice l.i (l.e + 1) l.s)) × (l.v < 2 * 128 ^ (9 - (l.i - l.at)))
+
+abbrev pub decreases-loop-i : goal.decreases-loop-i
+decreases-loop-i l = l.i

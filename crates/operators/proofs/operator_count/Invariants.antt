@@ -1,0 +1,22 @@
+use mathlib.Core.Path.{◌≡◌, sym, ap, ◌∙◌}
+use Prim.Native.Nat.{ℕ, ◌+◌, ◌-◌, ◌*◌, ◌≤◌}
+use native.Mathlib.Omega.{arith}
+use native.Mathlib.Nat.{add-zero, mul-le-mul_right}
+use borrow.Author.Rules.{rules}
+use Rattle.basics.specs.Lists.{sum_to}
+use Rattle.rules.specs.Tables.{action_count, method_count}
+use Rattle.rules.specs.Progression.{mth}
+use Rattle.rules.specs.Operators.{positions}
+use Rattle.words.specs.Words.{table_of}
+use Rattle.laws.proofs.ListLaws.{sum_more}
+use Rattle.laws.proofs.CountLaws.{few_operators, operators_length}
+use Rattle.operators.proofs.operator_count.Given as goal
+
+abbrev pub invariant-loop-k : goal.invariant-loop-k
+invariant-loop-k l =
+    (l.methods ≡ method_count (table_of l.words))
+    × (l.k ≤ l.methods)
+    × (l.count ≡ action_count (table_of l.words) * l.bound + sum_to (λ i. positions l.bound l.form (table_of l.words) (mth i)) l.k)
+
+abbrev pub decreases-loop-k : goal.decreases-loop-k
+decreases-loop-k l = l.methods - l.k

@@ -1,0 +1,20 @@
+use mathlib.Core.Path.{◌≡◌, refl, sym, ap, ◌∙◌, subst}
+use Prim.Native.Nat.{◌+◌, ◌-◌}
+use native.Mathlib.Omega.{arith}
+use borrow.Author.Rules.{rules}
+use lib.ListN.{length, get_or}
+use Rattle.rules.specs.Tables.{action_count, action, method}
+use Rattle.rules.specs.Facts.{Join, join_one}
+use Rattle.words.specs.Words.{table_of}
+use Rattle.facts.specs.Sets.{join_read}
+use Rattle.operators.proofs.PrefixLaws.{Joining, joining_begins, joining_more, joining_stops, joining_ends, plain_prefix, whole_prefix}
+use Rattle.operators.proofs.prefix_of.Given as goal
+
+abbrev pub invariant-loop-count : goal.invariant-loop-count
+invariant-loop-count l =
+    (l.width ≡ length (method (table_of l.words) l.k).subs)
+    × (l.actions ≡ action_count (table_of l.words))
+    × Joining (table_of l.words) (method (table_of l.words) l.k).subs (join_read l.join) l.count
+
+abbrev pub decreases-loop-count : goal.decreases-loop-count
+decreases-loop-count l = l.width - l.count

@@ -1,0 +1,23 @@
+use mathlib.Core.Path.{◌≡◌, sym, subst}
+use Prim.Native.Nat.{ℕ, ◌+◌, ◌-◌, ◌*◌, ◌≤◌}
+use native.Mathlib.Omega.{arith}
+use borrow.Author.Rules.{rules}
+use Rattle.basics.specs.Lists.{sum_to}
+use Rattle.rules.specs.Tables.{action_count, method_count}
+use Rattle.rules.specs.Progression.{mth}
+use Rattle.rules.specs.Operators.{positions}
+use Rattle.laws.proofs.ListLaws.{sum_more}
+use Rattle.words.specs.Words.{table_of}
+use Rattle.problem.specs.Places.{IsPlace}
+use Rattle.problem.proofs.PlaceLaws.{method_place, past_all}
+use Rattle.problem.proofs.method_at.Given as goal
+
+abbrev pub invariant-loop-k : goal.invariant-loop-k
+invariant-loop-k l =
+    (l.first ≡ action_count (table_of l.words))
+    × (l.methods ≡ method_count (table_of l.words))
+    × (l.k ≤ l.methods)
+    × (l.n ≡ sum_to (λ j. positions l.bound l.form (table_of l.words) (mth j)) l.k + l.left)
+
+abbrev pub decreases-loop-k : goal.decreases-loop-k
+decreases-loop-k l = l.methods - l.k

@@ -1,0 +1,18 @@
+use borrow.Author.Rules.{rules}
+use native.Mathlib.Omega.{arith}
+use Rattle.words.specs.Words.{table_of}
+use Rattle.laws.proofs.CountLaws.{operators_few, sections_length}
+use Rattle.problem.proofs.section_count.Goals as goal
+
+pub overflow_add-result : goal.overflow_add-result
+overflow_add-result c =
+    omega (arith, operators_few c.args.bound c.args.form (table_of c.args.words.now) c.requires.0.valid c.requires.1)
+
+pub overflow_add-result-2 : goal.overflow_add-result-2
+overflow_add-result-2 c =
+    omega (arith, operators_few c.args.bound c.args.form (table_of c.args.words.now) c.requires.0.valid c.requires.1)
+
+pub returns : goal.returns
+returns c =
+    let a = c.args in
+    omega (arith, sections_length a.bound a.form (table_of a.words.now))

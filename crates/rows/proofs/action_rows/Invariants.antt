@@ -1,0 +1,24 @@
+use mathlib.Core.Path.{refl, ◌≡◌, sym, subst, ◌∙◌}
+use Prim.Native.Nat.{ℕ, ◌-◌, ◌≤◌, ◌<◌}
+use native.Mathlib.Omega.{arith}
+use lib.ListN.{length}
+use Rattle.rules.specs.Tables.{action_count}
+use Rattle.rules.specs.Progression.{Step}
+use Rattle.words.specs.Words.{table_of}
+use Rattle.rows.specs.Rows.{row_of}
+use Rattle.rows.specs.Stores.{PreparedTo, Stored}
+use Rattle.laws.proofs.StepNumbers.{step_action}
+use Rattle.rows.proofs.RowLaws.{prepared_more}
+use borrow.Author.Rules.{rules}
+use Rattle.rows.proofs.action_rows.Given as goal
+
+abbrev pub invariant-loop-k : goal.invariant-loop-k
+invariant-loop-k l =
+    (l.n ≡ action_count (table_of l.words))
+    × (l.k ≤ l.n)
+    × (length l.ops ≡ length l.initial.ops)
+    × (length l.cells ≡ length l.initial.cells)
+    × ((f : ℕ) → PreparedTo l.bound f (table_of l.words) l.k l.ops l.cells)
+
+abbrev pub decreases-loop-k : goal.decreases-loop-k
+decreases-loop-k l = l.n - l.k

@@ -1,0 +1,19 @@
+use mathlib.Core.Path.{◌≡◌, ap, ◌∙◌}
+use mathlib.Core.List.{List, [], map}
+use Prim.Native.Nat.{ℕ, ◌+◌, ◌-◌, ◌≤◌, ◌<◌}
+use native.Mathlib.Omega.{arith}
+use lib.ListN.{length, drop, drop_of_length-le}
+use Rattle.rules.specs.Tables.{Action, action}
+use Rattle.rules.specs.Progression.{act, prefix, total_cost}
+use Rattle.laws.proofs.CountLaws.{prefix_short}
+use Rattle.words.specs.Words.{table_of}
+use Rattle.laws.proofs.CostLaws.{prefix_action, cost_more, prefix_cheap}
+use borrow.Author.Rules.{rules}
+use Rattle.rows.proofs.prefix_cost.Given as goal
+
+abbrev pub invariant-loop-j : goal.invariant-loop-j
+invariant-loop-j l =
+    (l.j ≤ l.n) × (l.cost + total_cost (table_of l.words) (map act (drop l.j (prefix l.form (table_of l.words) l.k))) ≡ total_cost (table_of l.words) (map act (prefix l.form (table_of l.words) l.k)))
+
+abbrev pub decreases-loop-j : goal.decreases-loop-j
+decreases-loop-j l = l.n - l.j

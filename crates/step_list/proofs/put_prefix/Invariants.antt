@@ -1,0 +1,21 @@
+use Prim.Native.Nat.{◌-◌, ◌≤◌, ◌<◌}
+use mathlib.Core.Path.{◌≡◌, refl, ap, ◌∙◌}
+use mathlib.Core.List.{map}
+use native.Mathlib.Omega.{arith}
+use lib.ListN.{length, take}
+use lib.Seq.{sets, length-sets}
+use Rattle.rules.specs.Tables.{method}
+use Rattle.rules.specs.Progression.{act}
+use Rattle.rules.specs.Checks.{step_bytes}
+use Rattle.words.specs.Words.{table_of}
+use Rattle.words.proofs.ViewLaws.{subtask_low}
+use Rattle.step_list.proofs.StepListLaws.{one_more}
+use borrow.Author.Rules.{rules}
+use Rattle.step_list.proofs.put_prefix.Given as goal
+
+abbrev pub invariant-loop-j : goal.invariant-loop-j
+invariant-loop-j l =
+    (l.j ≤ l.p) × (l.out ≡ sets l.initial.out l.at (step_bytes (map act (take l.j (method (table_of l.words) l.k).subs))))
+
+abbrev pub decreases-loop-j : goal.decreases-loop-j
+decreases-loop-j l = l.p - l.j

@@ -1,0 +1,16 @@
+use mathlib.Core.Path.{◌∙◌}
+use borrow.Author.Rules.{rules}
+use Rattle.table.proofs.put_header.Goals as goal
+
+pub returns : goal.returns
+returns c = let a = c.args in
+    c.put_header.ensures
+    ∙ (λ i. record {
+      facts = a.h.facts;
+      actions = a.h.actions;
+      abstracts = a.h.abstracts;
+      methods = a.h.methods;
+      start = a.h.start;
+      init = c.set_of-init.ensures i;
+      goal = c.set_of-goal.ensures i;
+    })

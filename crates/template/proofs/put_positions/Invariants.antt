@@ -1,0 +1,16 @@
+use Prim.Native.Nat.{◌+◌, ◌*◌, ◌-◌, ◌≤◌, zero-le}
+use mathlib.Core.Path.{◌≡◌, ap}
+use native.Mathlib.Omega.{arith}
+use Rattle.basics.specs.Lists.{upto}
+use Rattle.laws.proofs.TextLaws.{upto_more}
+use Rattle.text.specs.Appends.{Appends}
+use Rattle.text.proofs.AppendLaws.{appends_none, appends_is, ◌▸◌}
+use Rattle.template.specs.Templates.{rendered}
+use borrow.Author.Rules.{rules}
+use Rattle.template.proofs.put_positions.Given as goal
+
+abbrev pub invariant-loop-p : goal.invariant-loop-p
+invariant-loop-p l = Appends l.initial.out l.at (upto (rendered l.t l.lens l.offs l.pen) l.p) l.out l.next × (l.p ≤ l.n) × (l.next ≤ l.at + 1408 * l.p)
+
+abbrev pub decreases-loop-p : goal.decreases-loop-p
+decreases-loop-p l = l.n - l.p

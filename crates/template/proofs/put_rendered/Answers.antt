@@ -1,0 +1,77 @@
+use Prim.Native.Nat.{◌+◌, ◌*◌, ◌-◌, ◌≤◌, zero-le}
+use mathlib.Core.Path.{◌≡◌, refl}
+use lib.ListN.{get_or}
+use native.Mathlib.Omega.{arith}
+use Rattle.basics.specs.Lists.{upto, sum_to}
+use Rattle.laws.proofs.ListLaws.{sum_more}
+use Rattle.text.specs.Appends.{Appends}
+use Rattle.text.proofs.AppendLaws.{◌▸◌, appends_is, appends_none}
+use Rattle.template.specs.Templates.{start_of, turn}
+use Rattle.template.proofs.TemplateLaws.{segment_ends, last_begins, turn_more, turn_last}
+use borrow.Author.Rules.{rules}
+use Rattle.template.proofs.put_rendered.Goals as goal
+
+pub loop-j-init : goal.loop-j-init
+unfolding upto sum_to
+loop-j-init c = (zero-le, refl, refl, omega arith, appends_none _ _)
+
+pub bounds-lens-j : goal.bounds-lens-j
+bounds-lens-j c = omega (arith, c.requires.pen_stands.0.lengths)
+
+pub put_part-end-requires : goal.put_part-end-requires
+put_part-end-requires c =
+    let l = c.loop-j in
+    let e = segment_ends c.requires.pen_stands.0 l.j (omega arith) in
+    omega (arith, e, c.requires, l.invariant.2, l.invariant.3, l.invariant.4.size)
+
+pub bounds-offs-j : goal.bounds-offs-j
+bounds-offs-j c = omega (arith, c.requires.pen_stands.0.offsets)
+
+pub overflow_add-v : goal.overflow_add-v
+overflow_add-v c =
+    omega (arith, c.requires.pen_stands.0.low c.loop-j.j (omega arith))
+
+pub put_figure-next-requires : goal.put_figure-next-requires
+put_figure-next-requires c =
+    let l = c.loop-j in
+    let e = segment_ends c.requires.pen_stands.0 l.j (omega arith) in
+    let q = c.put_part-end.ensures in
+    (omega (arith, e, c.requires.margin_in_bounds, q.value, q.appends.size, l.invariant.3, l.invariant.4.size), omega (arith, c.requires.pen_stands.0.low l.j (omega arith)), c.requires.pen_stands.3)
+
+pub overflow_add-from : goal.overflow_add-from
+overflow_add-from c =
+    let l = c.loop-j in
+    let e = segment_ends c.requires.pen_stands.0 l.j (omega arith) in
+    omega (arith, e, c.requires.margin_in_bounds, l.invariant.2)
+
+pub loop-j-preserved : goal.loop-j-preserved
+loop-j-preserved c =
+    let l = c.loop-j in
+    let a = c.args in
+    let q = c.put_part-end.ensures in
+    let d = c.put_figure-next.ensures in
+    let t = sum_more (λ k. get_or a.lens.now k 0) l.j in
+    (omega arith, l.invariant.1, omega (arith, t, l.invariant.2), omega (arith, t, l.invariant.3, q.value, d.upper_bound), appends_is (turn_more a.t.now a.lens.now a.offs.now a.p l.j l.from l.invariant.2) (l.invariant.4 ▸ (q.appends ▸ d.appends)))
+
+pub overflow_sub-pen : goal.overflow_sub-pen
+overflow_sub-pen c =
+    let l = c.loop-j in
+    let k : l.j ≡ c.args.pen.count = omega arith in
+    let e = last_begins c.requires.pen_stands.0 l.j l.from k l.invariant.2 in
+    omega (arith, e, c.requires.pen_stands.0.reach)
+
+pub put_part-requires : goal.put_part-requires
+put_part-requires c =
+    let l = c.loop-j in
+    let k : l.j ≡ c.args.pen.count = omega arith in
+    let e = last_begins c.requires.pen_stands.0 l.j l.from k l.invariant.2 in
+    omega (arith, e, k, c.requires, c.requires.pen_stands.0.reach, l.invariant.2, l.invariant.3, l.invariant.4.size)
+
+pub returns : goal.returns
+returns c =
+    let l = c.loop-j in
+    let a = c.args in
+    let k : l.j ≡ a.pen.count = omega arith in
+    let e = last_begins c.requires.pen_stands.0 l.j l.from k l.invariant.2 in
+    let q = c.put_part.ensures in
+    record { appends = appends_is (turn_last a.t.now a.lens.now a.offs.now a.p l.j l.from a.pen k e) (l.invariant.4 ▸ q.appends); upper_bound = omega (arith, k, e, c.requires.pen_stands.0.reach, l.invariant.2, l.invariant.3, q.value) }
