@@ -1,7 +1,7 @@
 # C programs over the proved archive, built and run with the toolchain alone: its compiler, its linker, its C library and,
 # where the machine is not x86-64, its emulator.
-KIT := $(patsubst %/docs/START-HERE.md,%,$(shell rt doc))
-TOOL := $(KIT)/on/$(shell uname -m)/toolchain
+KIT := $(patsubst %/START-HERE.md,%,$(shell rt doc))
+TOOL := $(KIT)/toolchain
 LIB := $(TOOL)/lib
 LOADER := $(LIB)/ld-linux-x86-64.so.2
 QEMU := $(TOOL)/bin/qemu-x86_64
@@ -41,9 +41,9 @@ test:
 
 ## archive   target/libildorzhen.a, for C to link, from the proved source; that it needs memcpy and memset alone is tried
 archive:
-	rt staticlib console
+	cd crates/console_c && rt lib
 	mkdir -p $(OUT)
-	cp target/staticlib/libconsole.a $(ARCHIVE)
+	cp crates/console_c/out/libconsole_c.a $(ARCHIVE)
 	@test "$$($(TOOL)/bin/llvm-ar t $(ARCHIVE) | wc -l)" -eq 1
 	$(TOOL)/bin/ld.lld --entry=0 --defsym=memcpy=0 --defsym=memset=0 --whole-archive $(ARCHIVE) -o $(OUT)/alone
 
@@ -63,7 +63,8 @@ bench: $(addprefix $(OUT)/,bench-ours bench-plain bench-searches plain-emit plai
 
 ## programs  target/bin/verify, target/bin/emit and target/bin/find, proved and run on their stored input
 programs:
-	rt check verify emit find
+	mkdir -p target/bin
+	for name in verify emit find; do (cd crates/$$name && rt run < stdin | cmp - stdout) && cp crates/$$name/out/$$name target/bin || exit 1; done
 
 ## help      this list
 help:

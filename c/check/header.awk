@@ -1,5 +1,5 @@
 # Holds the C header against the Rattle source, as texts: neither is compiled, so what cannot be read is told too.
-#   awk -f header.awk HEADER .../console/src/.. .../rules/src/reasons.rt .../rules/src/limits.rt
+#   awk -f header.awk HEADER .../console_c/src/.. .../rules/src/reasons.rt .../rules/src/limits.rt
 # A line for each difference, and exit status 1; one line that counts, and 0, where there is none.
 
 FILENAME ~ /\.h$/ && /\\$/ { tell("cannot read a line that goes on in the next: '" $0 "'") }
@@ -42,7 +42,7 @@ function squeeze(text) {
 
 # Every function that C is to call is exported under its own name, and nothing else is.
 function read_source(text,   pieces, count, k, piece) {
-    count = split(text, pieces, /#\[no_mangle\]/)
+    count = split(text, pieces, /#\[unsafe\(no_mangle\)\]/)
     for (k = 1; k <= count; k++) {
         piece = squeeze(pieces[k])
         if (k > 1 && sub(/^pub extern "C" fn /, "", piece))
@@ -50,7 +50,7 @@ function read_source(text,   pieces, count, k, piece) {
         else if (k > 1)
             tell("the source exports what is no 'pub extern \"C\" fn': '" substr(piece, 1, 60) "'")
         if (match(piece, /extern "C"/))
-            tell("the source has no #[no_mangle] before '" substr(piece, RSTART, 60) "'")
+            tell("the source has no #[unsafe(no_mangle)] before '" substr(piece, RSTART, 60) "'")
     }
     if (count < 2)
         tell("the source exports nothing")

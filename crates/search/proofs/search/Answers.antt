@@ -91,7 +91,7 @@ loop-at-preserved-then-not-n c =
     let g = l.invariant in
     let row = c.if-row-ge-MOST.false in
     let tries = c.try_row-n.ensures in
-    let n = c.if-not-n.true in
+    let n = not-true _ c.if-not-n.true in
     let same = tries.off n in
     let off = row_off valid linked g row p.ready.0.rows tries n in
     going_past valid linked g row _ (tries.size ∙ g.cells) (ap (state_in l.at) same) off _ c.past-at.ensures
@@ -105,7 +105,7 @@ returns-then-applied-budget c =
     let g = l.invariant in
     let row = c.if-row-ge-MOST.false in
     let tries = c.try_row-n.ensures in
-    let n = c.if-not-n.false in
+    let n = not-false _ c.if-not-n.false in
     let on = row_on valid linked g row p.ready.0.rows tries n in
     record { tells = going_over valid linked g row on.0 (omega (arith, c.if-applied-budget.true, g.within)); trail_len = g.marks }
 
@@ -121,7 +121,7 @@ overflow_sub-rest c = let g = c.loop-at.invariant in omega (arith, g.row.allowed
 pub onward-next-requires : goal.onward-next-requires
 onward-next-requires c =
     let tries = c.try_row-n.ensures in
-    (c.requires.ready.1.size, tries.size ∙ c.loop-at.invariant.cells, (tries.on (c.if-not-n.false)).low)
+    (c.requires.ready.1.size, tries.size ∙ c.loop-at.invariant.cells, (tries.on (not-false _ c.if-not-n.false)).low)
 
 pub keep-requires : goal.keep-requires
 keep-requires c =
@@ -145,7 +145,7 @@ loop-at-preserved-then-next-lt-MOST c =
     let g = l.invariant in
     let row = c.if-row-ge-MOST.false in
     let tries = c.try_row-n.ensures in
-    let n = c.if-not-n.false in
+    let n = not-false _ c.if-not-n.false in
     let on = row_on valid linked g row p.ready.0.rows tries n in
     let kept = c.keep.ensures in
     let e = c.onward-next.ensures in
@@ -171,7 +171,7 @@ returns-then-is_complete c =
     let g = l.invariant in
     let row = c.if-row-ge-MOST.false in
     let tries = c.try_row-n.ensures in
-    let n = c.if-not-n.false in
+    let n = not-false _ c.if-not-n.false in
     let on = row_on valid linked g row p.ready.0.rows tries n in
     let kept = c.keep-then-is_complete.ensures in
     record { tells = going_found valid linked g row on.0 p.limit_le_most_limit.0 c.if-applied-budget.false _ _ _ _ _ kept.marked kept.saved_after on.1 (sym (c.is_complete.ensures _) ∙ c.if-is_complete.true); trail_len = kept.marked.size ∙ g.marks }
@@ -201,7 +201,7 @@ loop-at-preserved c =
     let g = l.invariant in
     let row = c.if-row-ge-MOST.false in
     let tries = c.try_row-n.ensures in
-    let n = c.if-not-n.false in
+    let n = not-false _ c.if-not-n.false in
     let on = row_on valid linked g row p.ready.0.rows tries n in
     let done = c.again-at.ensures in
     let low = row_there valid linked g row in

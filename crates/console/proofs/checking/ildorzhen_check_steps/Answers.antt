@@ -1,0 +1,8 @@
+use mathlib.Core.Path.{ap, ◌∙◌}
+use borrow.Author.Rules.{rules}
+use Rattle.basics.specs.Answers.{value_of}
+use Rattle.rules.specs.Checks.{steps_in}
+use Rattle.console.proofs.checking.ildorzhen_check_steps.Goals as goal
+
+pub returns : goal.returns
+returns c = c.verdict_steps.ensures ∙ ap (value_of steps_in) c.verdict.ensures.1

@@ -1,0 +1,14 @@
+use Rattle.replies.specs.Findings.{figures_of}
+use Rattle.laws.proofs.AnswerLaws.{mapped_number}
+use Rattle.rules.specs.Refusals.{search_plan}
+use Rattle.basics.specs.Answers.{number_of}
+use lib.ListN.{length}
+use mathlib.Core.Path.{ap, ◌∙◌}
+use borrow.Author.Rules.{rules}
+use Rattle.console.proofs.searching.ildorzhen_search_number.Goals as goal
+
+pub returns : goal.returns
+returns c =
+    let a = c.args in
+    c.number.ensures ∙ ap number_of c.measure.ensures
+    ∙ mapped_number figures_of (search_plan a.bound a.form a.limit a.budget a.table.now (length a.text.now))
