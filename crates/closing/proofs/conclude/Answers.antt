@@ -18,11 +18,11 @@ pub returns-then-not-holds : goal.returns-then-not-holds
 returns-then-not-holds c =
     let a = c.args in
     let h = c.holds.ensures ∙ ap (λ (g : ℕ). holds g (set_of a.t.facts)) c.goal_facts.ensures in
-    record { few = tt; by_index = λ stack. sym (ends_empty (table_of a.words.now) a.lines a.t c.if-t-ne0.false stack ∙ rw (sym h ∙ not-true c.holds.result c.if-not-holds.true-raw)) }
+    record { few = tt; by_index = λ stack. sym (ends_empty (table_of a.words.now) a.lines a.t c.if-t-ne0.false stack ∙ rw (sym h ∙ c.if-not-holds.true)) }
 
 pub returns : goal.returns
 returns c =
     let a = c.args in
     let h = c.holds.ensures ∙ ap (λ (g : ℕ). holds g (set_of a.t.facts)) c.goal_facts.ensures in
     let k = c.requires.1 in
-    record { few = omega (arith, k.steps, k.operators); by_index = λ stack. sym (ends_empty (table_of a.words.now) a.lines a.t c.if-t-ne0.false stack ∙ rw (sym h ∙ not-false c.holds.result c.if-not-holds.false-raw)) }
+    record { few = omega (arith, k.steps, k.operators); by_index = λ stack. sym (ends_empty (table_of a.words.now) a.lines a.t c.if-t-ne0.false stack ∙ rw (sym h ∙ c.if-not-holds.false)) }

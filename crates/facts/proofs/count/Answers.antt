@@ -5,7 +5,7 @@ use Rattle.facts.specs.Sets.{set_of}
 use Rattle.facts.proofs.count.Goals as goal
 
 pub overflow_cast-result : goal.overflow_cast-result
-overflow_cast-result c = omega (arith, ones-le 64 (set_of c.args.s) c.struct_known-1.given.0.fits)
+overflow_cast-result c = omega (arith, ones-le 64 (set_of c.args.s) (omega arith))
 
 pub returns : goal.returns
-returns c = record { value = refl; upper_bound = ones-le 64 (set_of c.args.s) c.struct_known-1.given.0.fits }
+returns c = record { value = refl; upper_bound = ones-le 64 (set_of c.args.s) (omega arith) }

@@ -10,10 +10,7 @@ bounds-bounds-head c =
     omega (arith, head_low (table_of c.args.words.now) c.requires.0.valid c.args.k c.requires.1)
 
 pub overflow_cast-old : goal.overflow_cast-old
-overflow_cast-old c = omega (arith, c.slice_known-2-1.given c.head_of-head.result)
-
-pub overflow_cast-bounds : goal.overflow_cast-bounds
-overflow_cast-bounds c = omega (arith, c.slice_known-2-1.given c.head_of-head.result)
+overflow_cast-old c = omega (arith, c.type_inv.bounds c.head_of-head.result)
 
 pub bounds-bounds-head-then-next-old : goal.bounds-bounds-head-then-next-old
 bounds-bounds-head-then-next-old c =

@@ -5,7 +5,7 @@ use borrow.Author.Rules.{rules}
 use Rattle.least.proofs.start_bound.Goals as goal
 
 pub overflow_cast-bound : goal.overflow_cast-bound
-overflow_cast-bound c = omega (arith, c.shared_slice_known-3-1.given c.start_task-start.result)
+overflow_cast-bound c = omega (arith, c.type_inv.bounds c.start_task-start.result)
 
 pub returns-then-bound-le-MOST_BOUND : goal.returns-then-bound-le-MOST_BOUND
 returns-then-bound-le-MOST_BOUND c =

@@ -26,11 +26,11 @@ bounds-bounds-task c =
     omega (arith, subtask_low c.args.words.now c.requires.0 c.args.k c.requires.1 z.j (omega arith))
 
 pub overflow_cast-own : goal.overflow_cast-own
-overflow_cast-own c = omega (arith, c.shared_slice_known-in-loop-j-1.given c.subtask-task.result)
+overflow_cast-own c = omega (arith, c.type_inv.bounds c.subtask-task.result)
 
 pub overflow_add-own : goal.overflow_add-own
 overflow_add-own c =
-    omega (arith, c.shared_slice_known-in-loop-j-1.given c.subtask-task.result, width_small c.args.words.now c.requires.0 c.args.k c.requires.1)
+    omega (arith, c.type_inv.bounds c.subtask-task.result, width_small c.args.words.now c.requires.0 c.args.k c.requires.1)
 
 pub loop-j-smaller : goal.loop-j-smaller
 loop-j-smaller c = omega (arith, c.loop-j-test.true)
