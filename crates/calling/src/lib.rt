@@ -3,7 +3,6 @@
 
 ghost use Rattle.std.specs.Prelude.{◌≤◌, length};
 
-use std::io;
 use console::checking::{
     ildorzhen_check_cost, ildorzhen_check_number, ildorzhen_check_operators, ildorzhen_check_place,
     ildorzhen_check_steps,
@@ -24,6 +23,7 @@ use console::searching::{
 use console::sections::{
     ildorzhen_sections_count, ildorzhen_sections_number, ildorzhen_sections_place,
 };
+use std::io;
 
 // What is lent to be written: more than any section or step list of the examples.
 const ROOM: usize = 2 * rules::limits::MOST_SECTION_BYTES;
@@ -119,7 +119,14 @@ pub fn with_plan<P: Print>(printer: &P, kind: u8, input: &[u8]) -> io::Result<()
 }
 
 // The check's numbers, and those of the expansion into four bytes and into many.
-fn check_numbers<P: Print>(printer: &P, bound: u64, form: u64, table: &[u8], plan: &[u8], space: &mut [u8]) -> io::Result<()>
+fn check_numbers<P: Print>(
+    printer: &P,
+    bound: u64,
+    form: u64,
+    table: &[u8],
+    plan: &[u8],
+    space: &mut [u8],
+) -> io::Result<()>
     requires { 4 ≤ length space.old }
 {
     let number = ildorzhen_check_number(bound, form, table, plan);
@@ -132,7 +139,14 @@ fn check_numbers<P: Print>(printer: &P, bound: u64, form: u64, table: &[u8], pla
     expand_numbers(printer, bound, form, table, plan, space)
 }
 
-fn expand_numbers<P: Print>(printer: &P, bound: u64, form: u64, table: &[u8], plan: &[u8], room: &mut [u8]) -> io::Result<()> {
+fn expand_numbers<P: Print>(
+    printer: &P,
+    bound: u64,
+    form: u64,
+    table: &[u8],
+    plan: &[u8],
+    room: &mut [u8],
+) -> io::Result<()> {
     let number = ildorzhen_expand_number(bound, form, table, plan, room);
     let place = ildorzhen_expand_place(bound, form, table, plan, room);
     let length = ildorzhen_expand_length(bound, form, table, plan, room);
@@ -141,14 +155,29 @@ fn expand_numbers<P: Print>(printer: &P, bound: u64, form: u64, table: &[u8], pl
 }
 
 // The room is at the end of the space.
-fn expand_less<P: Print>(printer: &P, bound: u64, form: u64, table: &[u8], plan: &[u8], space: &mut [u8], less: usize) -> io::Result<()> {
+fn expand_less<P: Print>(
+    printer: &P,
+    bound: u64,
+    form: u64,
+    table: &[u8],
+    plan: &[u8],
+    space: &mut [u8],
+    less: usize,
+) -> io::Result<()> {
     let length = ildorzhen_expand_length(bound, form, table, plan, space) as usize;
     let most = report::smaller(length, space.len());
     let from = space.len() - most + report::smaller(less, most);
     expand(printer, bound, form, table, plan, &mut space[from..])
 }
 
-fn expand<P: Print>(printer: &P, bound: u64, form: u64, table: &[u8], plan: &[u8], room: &mut [u8]) -> io::Result<()> {
+fn expand<P: Print>(
+    printer: &P,
+    bound: u64,
+    form: u64,
+    table: &[u8],
+    plan: &[u8],
+    room: &mut [u8],
+) -> io::Result<()> {
     let number = ildorzhen_expand_number(bound, form, table, plan, room);
     let place = ildorzhen_expand_place(bound, form, table, plan, room);
     ildorzhen_expand_write(bound, form, table, plan, room);
@@ -184,11 +213,27 @@ fn search_in<P: Print>(
 ) -> io::Result<()>
     requires { size ≤ length space.old }
 {
-    search_numbers(printer, bound, form, limit, budget, table, &mut space[..size])
+    search_numbers(
+        printer,
+        bound,
+        form,
+        limit,
+        budget,
+        table,
+        &mut space[..size],
+    )
 }
 
 // The text, or nothing, and a line that stood behind it before.
-fn search_numbers<P: Print>(printer: &P, bound: u64, form: u64, limit: u64, budget: u64, table: &[u8], text: &mut [u8]) -> io::Result<()> {
+fn search_numbers<P: Print>(
+    printer: &P,
+    bound: u64,
+    form: u64,
+    limit: u64,
+    budget: u64,
+    table: &[u8],
+    text: &mut [u8],
+) -> io::Result<()> {
     let number = ildorzhen_search_number(bound, form, limit, budget, table, text);
     let place = ildorzhen_search_place(bound, form, limit, budget, table, text);
     let applied = ildorzhen_search_applied(bound, form, limit, budget, table, text);
@@ -199,6 +244,10 @@ fn search_numbers<P: Print>(printer: &P, bound: u64, form: u64, limit: u64, budg
         b"stood behind\n",
     );
     let written = ildorzhen_search_write(bound, form, limit, budget, table, text);
-    telling::numbers(printer, b"search", &[number, place, applied, length, written])?;
+    telling::numbers(
+        printer,
+        b"search",
+        &[number, place, applied, length, written],
+    )?;
     report::send_text(printer, text, report::smaller(end, text.len()))
 }

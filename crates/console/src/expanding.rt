@@ -15,13 +15,7 @@ pub fn ildorzhen_expand_number(
     replies::number(judging::expanding::measure(bound, form, table, plan, steps.len()))
 }
 
-pub fn ildorzhen_expand_place(
-    bound: u64,
-    form: u64,
-    table: &[u8],
-    plan: &[u8],
-    steps: &[u8],
-) -> u64
+pub fn ildorzhen_expand_place(bound: u64, form: u64, table: &[u8], plan: &[u8], steps: &[u8]) -> u64
     ensures { result ≡ place_of (expand_plan bound form table.now plan.now (length steps.now)) }
 {
     replies::place(judging::expanding::measure(bound, form, table, plan, steps.len()))

@@ -1,6 +1,6 @@
 -- "The table": its numbers in order, each with its range and its refusal.
 use Rattle.std.specs.Prelude.{ℕ, ◌+◌, ◌-◌, ◌^◌, List, [], cond, length, get_or, ltb}
-use Rattle.basics.specs.Readings.{Reading, got, bad, then, ◌>>=◌, give, many}
+use Rattle.basics.specs.Readings.{Reading, got, bad, ◌>>=◌, give, many}
 use Rattle.rules.specs.Limits.{most_facts, most_actions, most_tasks, most_methods, most_subtasks, most_cost}
 use Rattle.rules.specs.Reasons.{out_of_range, not_there, bytes_after_table}
 use Rattle.rules.specs.Numbers.{ranged}

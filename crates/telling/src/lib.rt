@@ -22,7 +22,13 @@ pub fn field<P: Print>(printer: &P, word: &[u8], n: u64) -> io::Result<()>
 }
 
 // The refusal, or the value under its name, as one line.
-pub fn answer<P: Print>(printer: &P, name: &[u8], number: u64, place: u64, value: u64) -> io::Result<()>
+pub fn answer<P: Print>(
+    printer: &P,
+    name: &[u8],
+    number: u64,
+    place: u64,
+    value: u64,
+) -> io::Result<()>
     requires { length name.now ≤ 20 }
 {
     if number != 0 {

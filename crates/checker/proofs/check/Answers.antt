@@ -1,15 +1,11 @@
-use Prim.Native.Nat.{◌-◌}
 use mathlib.Core.Path.{refl, sym, ap, subst, ◌∙◌}
 use native.Mathlib.Omega.{arith}
-use lib.ListN.{length}
-use Rattle.words.specs.Words.{table_of}
 use Rattle.lines.specs.Lines.{IsLine}
 use Rattle.lines.specs.declared.Line.{Line}
 use Rattle.run.specs.Steps.{Point}
 use Rattle.run.specs.Runs.{point_of}
-use Rattle.checker.proofs.CheckLaws.{Going, going_begins, shape_out, comment_on, operator_out, operator_counts, operator_on, cut_out, ends}
-use Rattle.checker.proofs.NoteLaws.{Noting, noting_begins, noting_comment, noting_operator, noting_ends}
-use borrow.Author.Rules.{rules}
+use Rattle.checker.proofs.CheckLaws.{going_begins, shape_out, comment_on, operator_out, operator_counts, operator_on, cut_out, ends}
+use Rattle.checker.proofs.NoteLaws.{noting_begins, noting_comment, noting_operator, noting_ends}
 use Rattle.checker.proofs.check.Goals as goal
 
 pub loop-at-init : goal.loop-at-init

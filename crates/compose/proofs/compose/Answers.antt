@@ -90,6 +90,9 @@ returns c =
     let row = row_at a.ops.now a.cells.now 0 in
     let d = c.put_name-name.ensures ▹ c.prevails-before.ensures ▹ c.effects-after.ensures ▹ c.pushes-higher.ensures ▹ c.put_cost.ensures _ _ in
     let bottom = c.bottom_of-bottom in
-    let n = few_numbers c.left-stay.result c.task-task.result bottom.result row.rest f.left.held.few in record { drawn = drawn_is (d.drawn (λ p. []) (drawn_none a.t.now a.lens.now a.offs.now))
+    let n = few_numbers c.left-stay.result c.task-task.result bottom.result row.rest f.left.held.few in record {
+      drawn = drawn_is (d.drawn (λ p. []) (drawn_none a.t.now a.lens.now a.offs.now))
           (λ p. (λ i. (whole a.top a.letter a.k (c.needs-needs.ensures i) (c.adds-adds.ensures i) (c.dels-dels.ensures i) (c.left-stay.ensures i) (c.task-task.ensures i) bottom.result row.rest (c.cost-cost.ensures i)).text p)
-          ∙ operator_cut a.top a.free (sets_of row) row.task row.rest p bottom.result bottom.ensures.0 a.letter a.k row.cost (kept_low f.row) (altered_low f.row)); count_bound = (omega (arith, d.most, d.count, n), d.size) }
+          ∙ operator_cut a.top a.free (sets_of row) row.task row.rest p bottom.result bottom.ensures.0 a.letter a.k row.cost (kept_low f.row) (altered_low f.row));
+      count_bound = (omega (arith, d.most, d.count, n), d.size);
+    }

@@ -1,5 +1,4 @@
 use Rattle.facts.specs.Sets.{set_of}
-use borrow.Author.Rules.{rules}
 use native.Mathlib.Omega.{arith}
 use Rattle.drawing.proofs.DrawLaws.{◌▹◌, draws_is, space_less, room_after}
 use Prim.Native.Nat.{ℕ, ◌*◌}

@@ -1,4 +1,3 @@
-use borrow.Author.Rules.{rules}
 use native.Mathlib.Omega.{arith}
 use Rattle.text.proofs.PutLaws.{◌▹◌, puts_is}
 use Rattle.drawing.proofs.DrawLaws.{draws_text}

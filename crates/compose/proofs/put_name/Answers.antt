@@ -1,4 +1,3 @@
-use borrow.Author.Rules.{rules}
 use mathlib.Core.List.{[]}
 use native.Mathlib.Omega.{arith}
 use Rattle.drawing.proofs.DrawLaws.{◌▹◌, draws_is, space_less, space_after, room_after}

@@ -1,4 +1,3 @@
-use borrow.Author.Rules.{rules}
 use native.Mathlib.Omega.{arith}
 use Rattle.drawing.proofs.DrawLaws.{draws_text}
 use Rattle.drawing.proofs.field.Goals as goal

@@ -1,4 +1,3 @@
-use borrow.Author.Rules.{rules}
 use mathlib.Core.Path.{refl}
 use native.Mathlib.Omega.{arith}
 use Rattle.drawing.proofs.DrawLaws.{◌▹◌, draws_is, room_less, space_after}

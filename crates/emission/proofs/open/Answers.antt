@@ -4,7 +4,6 @@ use Rattle.rules.specs.Programs.{emit_input}
 use Rattle.opening.proofs.OpeningLaws.{goes_on}
 use Rattle.report.proofs.InputLaws.{last_part}
 use Rattle.emission.proofs.JobLaws.{refusal_does, problem_does}
-use borrow.Author.Rules.{rules}
 use Rattle.emission.proofs.open.Goals as goal
 
 pub returns-in-Refused : goal.returns-in-Refused

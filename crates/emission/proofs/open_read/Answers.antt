@@ -5,7 +5,6 @@ use Rattle.rules.specs.Programs.{emit_output}
 use mathlib.Core.Path.{sym, ap, ◌∙◌}
 use lib.Seq.{length-take-le}
 use Rattle.report.proofs.CutLaws.{emit_read}
-use borrow.Author.Rules.{rules}
 use Rattle.emission.proofs.open_read.Goals as goal
 
 pub slice_bounds-open-end : goal.slice_bounds-open-end

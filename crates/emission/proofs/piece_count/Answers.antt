@@ -4,7 +4,6 @@ use native.Mathlib.Omega.{arith}
 use Rattle.words.specs.Words.{table_of}
 use Rattle.emission.specs.Jobs.{piece_count, TableHeld}
 use Rattle.emission.specs.declared.Job.{Job}
-use borrow.Author.Rules.{rules}
 use Rattle.emission.proofs.piece_count.Goals as goal
 
 pub step_count-requires : goal.step_count-requires

@@ -5,7 +5,6 @@ use Rattle.words.specs.Words.{table_of}
 use Rattle.emission.specs.Jobs.{piece_count, Stands}
 use Rattle.emission.specs.declared.Job.{Job}
 use Rattle.emission.proofs.JobLaws.{PartOf, refused_part}
-use borrow.Author.Rules.{rules}
 use Rattle.emission.proofs.put_part.Goals as goal
 
 pub put_problem-requires : goal.put_problem-requires

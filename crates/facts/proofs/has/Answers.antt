@@ -2,7 +2,6 @@ use Prim.Native.Nat.{ℕ, ◌/◌, ◌^◌}
 use mathlib.Core.Path.{ap, sym, ◌∙◌}
 use lib.Bits.{and_mask}
 use lib.Dec.{eqb}
-use borrow.Author.Rules.{rules}
 use Rattle.laws.proofs.SetLaws.{has_bit}
 use Rattle.facts.specs.Sets.{set_of}
 use Rattle.facts.proofs.has.Goals as goal

@@ -5,7 +5,6 @@ use Rattle.words.specs.Words.{table_of}
 use Rattle.finder.proofs.FinderLaws.{plan_told, plan_kept, plan_written}
 use native.Mathlib.Omega.{arith}
 use mathlib.Core.Path.{◌∙◌}
-use borrow.Author.Rules.{rules}
 use Rattle.finder.proofs.hand_out.Goals as goal
 
 pub returns-then-text-bytes : goal.returns-then-text-bytes

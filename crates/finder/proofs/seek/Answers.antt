@@ -12,7 +12,6 @@ use Rattle.rows.proofs.RowLaws.{row_ok}
 use Rattle.words.specs.Words.{table_of}
 use Rattle.finder.proofs.FinderLaws.{walk_over, walk_none, walk_found, found_small, refusal_found}
 use mathlib.Core.Path.{refl, sym, ap, subst, ◌∙◌}
-use borrow.Author.Rules.{rules}
 use Rattle.finder.proofs.seek.Goals as goal
 
 pub link-links-requires : goal.link-links-requires

@@ -1,7 +1,6 @@
 use Prim.Native.Nat.{◌+◌, ◌*◌}
 use mathlib.Core.Path.{◌≡◌, ◌∙◌}
 use Rattle.rules.specs.Programs.{pair_at, budget_in}
-use borrow.Author.Rules.{rules}
 use Rattle.finding.proofs.budget.Goals as goal
 
 pub returns : goal.returns

@@ -7,7 +7,6 @@ use Rattle.basics.specs.Answers.{Answer}
 use Rattle.sought.proofs.SearchAnswers.{search_is_find}
 use Rattle.replies.specs.Findings.{figures}
 use Rattle.report.proofs.InputLaws.{last_part}
-use borrow.Author.Rules.{rules}
 use Rattle.finding.proofs.find.Goals as goal
 
 pub returns : goal.returns

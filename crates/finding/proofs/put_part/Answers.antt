@@ -7,7 +7,6 @@ use Rattle.rules.specs.Programs.{find_output}
 use Rattle.text.proofs.AppendLaws.{appends_is}
 use Rattle.report.proofs.CutLaws.{find_read}
 use Rattle.report.proofs.PartLaws.{only_sent}
-use borrow.Author.Rules.{rules}
 use Rattle.finding.proofs.put_part.Goals as goal
 
 pub slice_bounds-put_text-end : goal.slice_bounds-put_text-end

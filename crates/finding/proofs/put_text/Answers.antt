@@ -2,7 +2,6 @@ use mathlib.Core.Path.{sym, ap, ◌∙◌}
 use native.Mathlib.Omega.{arith}
 use Rattle.replies.specs.Findings.{found_of}
 use Rattle.finding.proofs.FoundLaws.{plan_put, refusal_put}
-use borrow.Author.Rules.{rules}
 use Rattle.finding.proofs.put_text.Goals as goal
 
 pub returns-in-Plan : goal.returns-in-Plan

@@ -3,7 +3,6 @@ use Prim.Native.Nat.{ℕ, ◌^◌, ◌-◌}
 use native.Mathlib.Omega.{arith}
 use lib.Pow.{pow_pos}
 use Rattle.laws.proofs.NumberLaws.{shl_one}
-use borrow.Author.Rules.{rules}
 use Rattle.header.proofs.all_facts.Goals as goal
 
 pub returns-then-f-eq-MOST_FACTS : goal.returns-then-f-eq-MOST_FACTS

@@ -4,7 +4,6 @@ use Rattle.laws.proofs.NumberLaws.{ranged_got}
 use Rattle.numbers.specs.Answers.{num_of}
 use Rattle.header.specs.Answers.{start_goal}
 use Rattle.laws.proofs.AnswerLaws.{via}
-use borrow.Author.Rules.{rules}
 use Rattle.header.proofs.read_header.Goals as goal
 
 pub overflow_sub-actions : goal.overflow_sub-actions

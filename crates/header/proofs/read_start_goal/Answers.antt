@@ -1,7 +1,6 @@
 use Rattle.numbers.specs.Answers.{num_of}
 use Rattle.header.specs.Answers.{start_goal}
 use Rattle.laws.proofs.AnswerLaws.{via}
-use borrow.Author.Rules.{rules}
 use Rattle.header.proofs.read_start_goal.Goals as goal
 
 pub returns-in-Bad : goal.returns-in-Bad

@@ -2,7 +2,6 @@ use mathlib.Core.Path.{sym, ap, ◌∙◌}
 use Rattle.rules.specs.Refusals.{check_plan, expand_plan, written}
 use Rattle.laws.proofs.RefusalLaws.{plan_small, kept}
 use Rattle.opening.proofs.OpeningLaws.{goes_on}
-use borrow.Author.Rules.{rules}
 use Rattle.judging.proofs.judge.Goals as goal
 
 pub judge-requires : goal.judge-requires

@@ -1,4 +1,3 @@
-use borrow.Author.Rules.{rules}
 use Rattle.kinds.proofs.FitLaws.{fits_short, fits_put}
 use Rattle.kinds.proofs.put_middle.Goals as goal
 

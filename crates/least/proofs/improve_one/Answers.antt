@@ -2,7 +2,6 @@ use native.Mathlib.Omega.{arith}
 use Rattle.words.specs.Words.{table_of}
 use Rattle.laws.proofs.TableLaws.{head_low}
 use Rattle.least.proofs.BoundLaws.{lowered, stayed}
-use borrow.Author.Rules.{rules}
 use Rattle.least.proofs.improve_one.Goals as goal
 
 pub bounds-bounds-head : goal.bounds-bounds-head

@@ -4,7 +4,6 @@ use Rattle.rules.specs.Limits.{most_tasks}
 use Rattle.laws.proofs.RoundLaws.{settled_least}
 use Rattle.words.specs.Words.{table_of}
 use Rattle.least.proofs.BoundLaws.{ones_kept}
-use borrow.Author.Rules.{rules}
 use Rattle.least.proofs.least.Goals as goal
 
 pub settle-requires : goal.settle-requires

@@ -1,6 +1,6 @@
 use mathlib.Core.Path.{◌≡◌, refl, ap, ◌∙◌}
 use mathlib.Core.Bool.{not}
-use Prim.Native.Nat.{ℕ, ◌-◌, ◌≤◌}
+use Prim.Native.Nat.{ℕ}
 use native.Mathlib.Omega.{arith}
 use lib.ListN.{length}
 use Rattle.rules.specs.Tables.{method_count}
@@ -16,8 +16,7 @@ loop-k-init c = (search rules, refl, refl)
 
 pub improve_one-lowered-requires : goal.improve_one-lowered-requires
 improve_one-lowered-requires c =
-    let z = c.loop-k in
-    (
+    let z = c.loop-k in (
       c.requires.0,
       omega (arith, c.method_count-n.ensures, c.loop-k-test.true),
       omega (arith, ap length z.invariant.1, round_length c.args.form (table_of c.args.words.now) c.args.bounds.now z.k, c.requires.1.size),

@@ -1,14 +1,8 @@
-use mathlib.Core.Path.{◌≡◌, refl, ap, ◌∙◌}
+use mathlib.Core.Path.{◌≡◌}
 use mathlib.Core.Bool.{not}
-use Prim.Native.Nat.{ℕ, ◌-◌, ◌≤◌}
-use native.Mathlib.Omega.{arith}
-use lib.ListN.{length}
-use Rattle.rules.specs.Tables.{method_count}
+use Prim.Native.Nat.{◌-◌, ◌≤◌}
 use Rattle.rules.specs.LeastBounds.{round, settled}
-use Rattle.laws.proofs.RoundLaws.{round_length}
 use Rattle.words.specs.Words.{table_of}
-use Rattle.least.proofs.BoundLaws.{round_more, lowered_more}
-use borrow.Author.Rules.{rules}
 use Rattle.least.proofs.one_round.Given as goal
 
 abbrev pub invariant-loop-k : goal.invariant-loop-k

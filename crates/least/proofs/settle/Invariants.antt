@@ -1,13 +1,11 @@
-use mathlib.Core.Path.{◌≡◌, refl, sym, subst, ◌∙◌}
+use mathlib.Core.Path.{◌≡◌}
 use mathlib.Core.Bool.{false, cond}
 use Prim.Native.Nat.{◌+◌}
-use native.Mathlib.Omega.{arith}
 use lib.ListN.{length}
 use lib.Dec.{T}
 use Rattle.rules.specs.Tables.{method_count}
 use Rattle.rules.specs.LeastBounds.{settled, total}
 use Rattle.laws.specs.Bounds.{Kept}
-use Rattle.laws.proofs.RoundLaws.{rounded, round_length, round_settles, round_falls}
 use Rattle.words.specs.Words.{table_of}
 use Rattle.least.proofs.settle.Given as goal
 

@@ -1,7 +1,6 @@
 use native.Mathlib.Omega.{arith}
 use Rattle.words.specs.Words.{table_of}
 use Rattle.least.proofs.BoundLaws.{start_low, start_high}
-use borrow.Author.Rules.{rules}
 use Rattle.least.proofs.start_bound.Goals as goal
 
 pub overflow_cast-bound : goal.overflow_cast-bound

@@ -2,7 +2,6 @@ use mathlib.Core.Path.{refl, sym, ◌∙◌}
 use mathlib.Core.Bool.{◌&&◌}
 use borrow.Author.Tests.{eqb-false}
 use Rattle.line_ends.proofs.EndLaws.{fed_inside, fed_on, end_feed, end_none, end_both}
-use borrow.Author.Rules.{rules}
 use Rattle.line_ends.proofs.end_bytes.Goals as goal
 
 pub returns-then-has : goal.returns-then-has

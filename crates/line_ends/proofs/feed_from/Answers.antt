@@ -1,9 +1,6 @@
-use Prim.Native.Nat.{◌+◌, ◌-◌}
-use mathlib.Core.Path.{◌≡◌, refl, sym, ◌∙◌}
+use mathlib.Core.Path.{refl, sym, ◌∙◌}
 use native.Mathlib.Omega.{arith}
-use borrow.Author.Tests.{not-true, not-false, eqb-true, eqb-false}
-use lib.ListN.{length, drop}
-use Rattle.line_ends.specs.Ends.{feed_at, Fed}
+use borrow.Author.Tests.{eqb-true, eqb-false}
 use Rattle.line_ends.proofs.EndLaws.{fed_inside, fed_on, feed_stop, feed_more}
 use Rattle.line_ends.proofs.feed_from.Goals as goal
 

@@ -1,10 +1,7 @@
 use Prim.Native.Nat.{◌+◌, ◌-◌}
-use mathlib.Core.Path.{◌≡◌, refl, sym, ◌∙◌}
-use native.Mathlib.Omega.{arith}
-use borrow.Author.Tests.{not-true, not-false, eqb-true, eqb-false}
+use mathlib.Core.Path.{◌≡◌}
 use lib.ListN.{length, drop}
 use Rattle.line_ends.specs.Ends.{feed_at, Fed}
-use Rattle.line_ends.proofs.EndLaws.{fed_inside, fed_on, feed_stop, feed_more}
 use Rattle.line_ends.proofs.feed_from.Given as goal
 
 abbrev pub invariant-loop-i : goal.invariant-loop-i

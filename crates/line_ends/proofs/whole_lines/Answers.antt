@@ -1,11 +1,7 @@
-use Prim.Native.Nat.{ℕ, ◌≤◌}
 use mathlib.Core.Path.{refl, sym, ◌∙◌}
-use mathlib.Core.Logic.{◌≢◌}
 use native.Mathlib.Omega.{arith}
 use borrow.Author.Tests.{eqb-true, eqb-false}
-use lib.ListN.{length, get_or}
 use Rattle.line_ends.proofs.EndLaws.{none_past, none_from, whole_found, whole_none}
-use borrow.Author.Rules.{rules}
 use Rattle.line_ends.proofs.whole_lines.Goals as goal
 
 pub loop-n-init : goal.loop-n-init

@@ -2,7 +2,6 @@ use mathlib.Core.Path.{refl}
 use native.Mathlib.Omega.{arith}
 use Rattle.line_ends.proofs.EndLaws.{fed_on, end_most}
 use Rattle.lines.proofs.LineLaws.{close_other, close_on, close_ends}
-use borrow.Author.Rules.{rules}
 use Rattle.lines.proofs.close.Goals as goal
 
 pub returns-then-bracket-ne41 : goal.returns-then-bracket-ne41

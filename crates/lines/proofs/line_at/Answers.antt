@@ -3,7 +3,6 @@ use native.Mathlib.Omega.{arith}
 use Rattle.lines.proofs.PlaceLaws.{told}
 use Rattle.line_ends.proofs.EndLaws.{fed_inside, fed_on}
 use Rattle.lines.proofs.LineLaws.{at_operator, at_other, at_comment}
-use borrow.Author.Rules.{rules}
 use Rattle.lines.proofs.line_at.Goals as goal
 
 pub bounds-s-at : goal.bounds-s-at

@@ -2,7 +2,6 @@ use mathlib.Core.Path.{sym, ◌∙◌}
 use native.Mathlib.Omega.{arith}
 use Rattle.line_ends.proofs.EndLaws.{fed_inside, fed_on}
 use Rattle.lines.proofs.LineLaws.{small_fed, line_kind, name_on, letter_byte}
-use borrow.Author.Rules.{rules}
 use Rattle.lines.proofs.operator.Goals as goal
 
 pub overflow_add-at : goal.overflow_add-at

@@ -2,7 +2,6 @@ use mathlib.Core.Path.{refl, sym, ◌∙◌}
 use native.Mathlib.Omega.{arith}
 use Rattle.line_ends.proofs.EndLaws.{fed_inside, fed_on}
 use Rattle.lines.proofs.LineLaws.{small_fed, space_other, space_on}
-use borrow.Author.Rules.{rules}
 use Rattle.lines.proofs.position.Goals as goal
 
 pub bounds-s-at : goal.bounds-s-at

@@ -1,9 +1,7 @@
 use mathlib.Core.Path.{refl, sym, ◌∙◌}
 use native.Mathlib.Omega.{arith}
-use borrow.Author.Tests.{not-true, not-false}
 use Rattle.line_ends.proofs.EndLaws.{fed_inside}
 use Rattle.lines.proofs.LineLaws.{fed_digit, digit_range, small_none, small_one, small_zero, small_two, small_three}
-use borrow.Author.Rules.{rules}
 use Rattle.lines.proofs.small.Goals as goal
 
 pub bounds-s-at : goal.bounds-s-at

@@ -1,12 +1,7 @@
-use mathlib.Core.Path.{◌≡◌, refl, ap₂}
-use Prim.Native.Nat.{◌+◌, ◌-◌, ◌≤◌}
-use native.Mathlib.Omega.{arith}
-use borrow.Author.Rules.{rules}
-use lib.ListN.{get_or-replicate}
+use mathlib.Core.Path.{◌≡◌}
+use Prim.Native.Nat.{◌-◌, ◌≤◌}
 use Rattle.words.specs.Words.{table_of}
-use Rattle.rows.specs.Sizes.{most_rows}
-use Rattle.links.specs.Links.{row_count, link_cells, LinkedTo}
-use Rattle.links.proofs.LinkLaws.{few_rows, none_linked, linked_before, all_linked}
+use Rattle.links.specs.Links.{row_count, LinkedTo}
 use Rattle.links.proofs.link.Given as goal
 
 abbrev pub invariant-loop-done : goal.invariant-loop-done

@@ -1,6 +1,5 @@
 use mathlib.Core.Path.{◌∙◌}
 use native.Mathlib.Omega.{arith}
-use borrow.Author.Rules.{rules}
 use Rattle.links.proofs.LinkLaws.{task_is, task_fits, last_is, left_out, one_linked}
 use Rattle.links.proofs.link_row.Goals as goal
 

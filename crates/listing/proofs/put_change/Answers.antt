@@ -1,5 +1,4 @@
 use Rattle.facts.specs.Sets.{set_of}
-use borrow.Author.Rules.{rules}
 use native.Mathlib.Omega.{arith}
 use Rattle.text.proofs.PutLaws.{◌▹◌, puts_is}
 use Rattle.listing.proofs.LineLaws.{change_line}

@@ -2,7 +2,6 @@ use Rattle.facts.specs.Sets.{set_of}
 use borrow.Author.Rules.{rules}
 use native.Mathlib.Omega.{arith}
 use mathlib.Core.Path.{sym, ap, ◌∙◌}
-use borrow.Author.Tests.{not-true, not-false}
 use Rattle.text.proofs.PutLaws.{puts_is, puts_none}
 use Rattle.listing.proofs.LineLaws.{line_there, line_missing}
 use Rattle.listing.specs.declared.Says.{Says}

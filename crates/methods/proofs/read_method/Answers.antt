@@ -6,7 +6,6 @@ use Rattle.rules.specs.Tables.{read_method}
 use Rattle.laws.proofs.NumberLaws.{ranged_got}
 use Rattle.laws.proofs.AnswerLaws.{via}
 use Rattle.methods.proofs.MethodLaws.{put_method, method_got}
-use borrow.Author.Rules.{rules}
 use Rattle.methods.proofs.read_method.Goals as goal
 
 pub bounds-words-b-in-Got-field : goal.bounds-words-b-in-Got-field

@@ -1,8 +1,7 @@
 use Rattle.numbers.specs.declared.Onward.{Onward}
 use mathlib.Core.Path.{◌≡◌, refl, sym, subst, ◌∙◌}
-use Prim.Native.Nat.{ℕ, ◌≤◌, ◌-◌, ◌+◌, ◌*◌}
+use Prim.Native.Nat.{ℕ, ◌+◌, ◌*◌}
 use native.Mathlib.Omega.{arith}
-use lib.ListN.{length, take}
 use Rattle.basics.specs.Readings.{got, many}
 use Rattle.rules.specs.Tables.{read_method}
 use Rattle.words.specs.Words.{method_of, per_method, first_method}
@@ -12,7 +11,6 @@ use Rattle.laws.proofs.AnswerLaws.{via}
 use Rattle.laws.proofs.ReadingLaws.{many_bad, turn}
 use Rattle.methods.proofs.MethodLaws.{method_kept}
 use Rattle.laws.proofs.StoreLaws.{kept_less}
-use borrow.Author.Rules.{rules}
 use Rattle.methods.proofs.read_methods.Goals as goal
 
 pub loop-k-init : goal.loop-k-init

@@ -1,18 +1,10 @@
-use Rattle.numbers.specs.declared.Onward.{Onward}
-use mathlib.Core.Path.{◌≡◌, refl, sym, subst, ◌∙◌}
-use Prim.Native.Nat.{ℕ, ◌≤◌, ◌-◌, ◌+◌, ◌*◌}
-use native.Mathlib.Omega.{arith}
+use mathlib.Core.Path.{◌≡◌}
+use Prim.Native.Nat.{◌≤◌, ◌-◌}
 use lib.ListN.{length, take}
 use Rattle.basics.specs.Readings.{got, many}
 use Rattle.rules.specs.Tables.{read_method}
-use Rattle.words.specs.Words.{method_of, per_method, first_method}
+use Rattle.words.specs.Words.{method_of, first_method}
 use Rattle.basics.specs.Lists.{rows}
-use Rattle.numbers.specs.Answers.{onward_of}
-use Rattle.laws.proofs.AnswerLaws.{via}
-use Rattle.laws.proofs.ReadingLaws.{many_bad, turn}
-use Rattle.methods.proofs.MethodLaws.{method_kept}
-use Rattle.laws.proofs.StoreLaws.{kept_less}
-use borrow.Author.Rules.{rules}
 use Rattle.methods.proofs.read_methods.Given as goal
 
 abbrev pub invariant-loop-k : goal.invariant-loop-k

@@ -1,7 +1,7 @@
 use mathlib.Core.Path.{◌≡◌, refl, ap, sym, subst, ◌∙◌}
-use Prim.Native.Nat.{ℕ, ◌≤◌, ◌-◌, ◌+◌}
+use Prim.Native.Nat.{ℕ, ◌+◌}
 use native.Mathlib.Omega.{arith}
-use lib.ListN.{length, take, set, length-set}
+use lib.ListN.{set, length-set}
 use lib.Seq.{take-set-le}
 use Rattle.rules.specs.Reasons.{not_there}
 use Rattle.basics.specs.Lists.{rows}
@@ -12,7 +12,6 @@ use Rattle.numbers.specs.Answers.{num_of}
 use Rattle.laws.proofs.AnswerLaws.{via}
 use Rattle.laws.proofs.ReadingLaws.{many_bad, turn}
 use Rattle.methods.proofs.MethodLaws.{cell_stored, cell_kept}
-use borrow.Author.Rules.{rules}
 use Rattle.methods.proofs.read_subtasks.Goals as goal
 
 pub loop-j-init : goal.loop-j-init

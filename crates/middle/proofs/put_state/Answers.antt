@@ -2,7 +2,6 @@ use native.Mathlib.Omega.{arith}
 use Rattle.words.specs.Words.{table_of}
 use Rattle.text.proofs.PutLaws.{◌▹◌, puts_is}
 use Rattle.middle.proofs.MiddleLaws.{state_lines}
-use borrow.Author.Rules.{rules}
 use Rattle.middle.proofs.put_state.Goals as goal
 
 pub returns : goal.returns

@@ -6,7 +6,6 @@ use Rattle.basics.specs.Texts.{digits, line}
 use Rattle.words.specs.Words.{table_of}
 use Rattle.text.proofs.PutLaws.{puts_is}
 use Rattle.middle.proofs.MiddleLaws.{start_low}
-use borrow.Author.Rules.{rules}
 use Rattle.middle.proofs.put_value.Goals as goal
 
 pub put_line-requires : goal.put_line-requires

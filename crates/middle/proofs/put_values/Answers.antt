@@ -1,10 +1,8 @@
-use Prim.Native.Nat.{◌+◌, ◌*◌, ◌-◌, ◌≤◌}
 use mathlib.Core.Path.{◌≡◌, ap}
 use native.Mathlib.Omega.{arith}
 use Rattle.basics.specs.Lists.{upto}
 use Rattle.laws.proofs.TextLaws.{upto_more}
 use Rattle.words.specs.Words.{table_of}
-use Rattle.text.specs.Puts.{Puts}
 use Rattle.text.proofs.PutLaws.{◌▹◌, puts_is, puts_none}
 use Rattle.middle.specs.Middles.{start_line}
 use borrow.Author.Rules.{rules}
@@ -25,12 +23,11 @@ pub loop-v-smaller : goal.loop-v-smaller
 loop-v-smaller c = omega arith
 
 pub loop-v-preserved : goal.loop-v-preserved
-loop-v-preserved c =
-    (
-      omega arith,
-      puts_is (upto_more _ _) (c.loop-v.invariant.1 ▹ c.put_value-next.ensures.puts),
-      omega (arith, c.put_value-next.ensures.upper_bound),
-    )
+loop-v-preserved c = (
+  omega arith,
+  puts_is (upto_more _ _) (c.loop-v.invariant.1 ▹ c.put_value-next.ensures.puts),
+  omega (arith, c.put_value-next.ensures.upper_bound),
+)
 
 pub returns : goal.returns
 returns c =

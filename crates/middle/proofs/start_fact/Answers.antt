@@ -1,4 +1,3 @@
-use borrow.Author.Rules.{rules}
 use Rattle.middle.proofs.start_fact.Goals as goal
 
 pub returns-then-has : goal.returns-then-has

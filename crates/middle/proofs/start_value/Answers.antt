@@ -2,7 +2,6 @@ use mathlib.Core.Path.{sym, ◌∙◌}
 use native.Mathlib.Omega.{arith}
 use Rattle.words.specs.Words.{table_of}
 use Rattle.middle.proofs.MiddleLaws.{start_fact, start_top, start_first, start_other}
-use borrow.Author.Rules.{rules}
 use Rattle.middle.proofs.start_value.Goals as goal
 
 pub returns-then-v-facts : goal.returns-then-v-facts

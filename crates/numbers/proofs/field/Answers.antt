@@ -2,7 +2,6 @@ use borrow.Author.Tests.{le-leb, lt-leb}
 use Rattle.rules.specs.Numbers.{ranged, in_range}
 use Rattle.numbers.specs.Answers.{num_of}
 use Rattle.laws.proofs.AnswerLaws.{via}
-use borrow.Author.Rules.{rules}
 use Rattle.numbers.proofs.field.Goals as goal
 
 pub returns-then-v-lo : goal.returns-then-v-lo

@@ -1,10 +1,7 @@
-use Prim.Native.Nat.{◌<◌, ◌-◌, ◌+◌}
-use mathlib.Core.Path.{◌≡◌}
+use Prim.Native.Nat.{◌<◌}
 use native.Mathlib.Omega.{arith}
-use lib.ListN.{length, drop}
-use Rattle.rules.specs.Numbers.{groups_before}
+use lib.ListN.{length}
 use Rattle.laws.proofs.NumberLaws.{run_end, run_stop, run_more}
-use borrow.Author.Rules.{rules}
 use Rattle.numbers.proofs.last.Goals as goal
 
 pub returns-then-s-i-lt128 : goal.returns-then-s-i-lt128

@@ -1,10 +1,7 @@
-use Prim.Native.Nat.{◌<◌, ◌-◌, ◌+◌}
+use Prim.Native.Nat.{◌-◌, ◌+◌}
 use mathlib.Core.Path.{◌≡◌}
-use native.Mathlib.Omega.{arith}
 use lib.ListN.{length, drop}
 use Rattle.rules.specs.Numbers.{groups_before}
-use Rattle.laws.proofs.NumberLaws.{run_end, run_stop, run_more}
-use borrow.Author.Rules.{rules}
 use Rattle.numbers.proofs.last.Given as goal
 
 abbrev pub invariant-loop-i : goal.invariant-loop-i

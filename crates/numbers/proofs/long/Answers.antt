@@ -1,11 +1,10 @@
 use mathlib.Core.Path.{◌≡◌, ap, sym, subst, ◌∙◌}
-use Prim.Native.Nat.{ℕ, ◌+◌, ◌-◌, ◌*◌, ◌%◌, ◌^◌, ◌≤◌, ◌<◌}
+use Prim.Native.Nat.{ℕ, ◌+◌, ◌*◌, ◌%◌, ◌^◌, ◌≤◌, ◌<◌}
 use native.Mathlib.Omega.{arith}
 use lib.ListN.{get_or}
 use Rattle.rules.specs.Numbers.{sound}
 use Rattle.basics.specs.Readings.{got}
 use Rattle.numbers.proofs.GroupLaws.{Begun, first_group, group_fits, power_fits, group_more, group_last, group_bad, sound_some, sound_last, sound_empty}
-use borrow.Author.Rules.{rules}
 use Rattle.numbers.proofs.long.Goals as goal
 
 pub loop-j-init : goal.loop-j-init

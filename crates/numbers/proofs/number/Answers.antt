@@ -5,7 +5,6 @@ use lib.ListN.{get_or}
 use Rattle.rules.specs.Numbers.{sound}
 use Rattle.basics.specs.Readings.{got}
 use Rattle.numbers.proofs.GroupLaws.{one_group, first_group, group_last, group_bad, sound_some, sound_empty}
-use borrow.Author.Rules.{rules}
 use Rattle.numbers.proofs.number.Goals as goal
 
 pub returns-then-a-lt128 : goal.returns-then-a-lt128

@@ -8,7 +8,6 @@ use Rattle.rules.specs.Numbers.{ranged, in_range}
 use Rattle.numbers.specs.Answers.{num_of}
 use Rattle.numbers.proofs.GroupLaws.{one_group}
 use Rattle.laws.proofs.AnswerLaws.{via}
-use borrow.Author.Rules.{rules}
 use Rattle.numbers.proofs.set.Goals as goal
 
 pub returns-then-hi-a : goal.returns-then-hi-a

@@ -6,7 +6,6 @@ use lib.ListN.{get_or}
 use Rattle.basics.specs.Readings.{got}
 use Rattle.rules.specs.Numbers.{sound}
 use Rattle.laws.proofs.NumberLaws.{last_below, number_ends, number_long, number_got, sound_room}
-use borrow.Author.Rules.{rules}
 use Rattle.numbers.proofs.slow.Goals as goal
 
 pub returns-then-s-e : goal.returns-then-s-e

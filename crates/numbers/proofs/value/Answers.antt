@@ -1,11 +1,10 @@
 use mathlib.Core.Path.{◌≡◌, ap, sym, subst, ◌∙◌}
-use Prim.Native.Nat.{ℕ, suc, ◌%◌, ◌≤◌, ◌<◌, ◌-◌, ◌+◌, ◌*◌, ◌^◌}
+use Prim.Native.Nat.{ℕ, suc, ◌%◌, ◌<◌, ◌-◌, ◌+◌, ◌*◌, ◌^◌}
 use native.Mathlib.Omega.{arith}
 use lib.ListN.{length}
 use lib.Seq.{slice}
 use Rattle.rules.specs.Numbers.{groups_value}
 use Rattle.laws.proofs.NumberLaws.{spell_one, spell_prev, room, room_fits}
-use borrow.Author.Rules.{rules}
 use Rattle.numbers.proofs.value.Goals as goal
 
 pub loop-i-init : goal.loop-i-init

@@ -1,11 +1,7 @@
-use mathlib.Core.Path.{◌≡◌, ap, sym, subst, ◌∙◌}
-use Prim.Native.Nat.{ℕ, suc, ◌%◌, ◌≤◌, ◌<◌, ◌-◌, ◌+◌, ◌*◌, ◌^◌}
-use native.Mathlib.Omega.{arith}
-use lib.ListN.{length}
+use mathlib.Core.Path.{◌≡◌}
+use Prim.Native.Nat.{◌≤◌, ◌<◌, ◌-◌, ◌+◌, ◌*◌, ◌^◌}
 use lib.Seq.{slice}
 use Rattle.rules.specs.Numbers.{groups_value}
-use Rattle.laws.proofs.NumberLaws.{spell_one, spell_prev, room, room_fits}
-use borrow.Author.Rules.{rules}
 use Rattle.numbers.proofs.value.Given as goal
 
 abbrev pub invariant-loop-i : goal.invariant-loop-i

@@ -1,5 +1,4 @@
 use mathlib.Core.Path.{sym, ◌∙◌}
-use borrow.Author.Rules.{rules}
 use Rattle.laws.proofs.RefusalLaws.{bound_low, bound_high, opened_is}
 use Rattle.opening.proofs.OpeningLaws.{opening_refused}
 use Rattle.opening.proofs.open.Goals as goal

@@ -1,5 +1,4 @@
 use mathlib.Core.Path.{sym, ◌∙◌}
-use borrow.Author.Rules.{rules}
 use Rattle.laws.proofs.RefusalLaws.{form_bad, early_refused, form_is}
 use Rattle.opening.proofs.OpeningLaws.{opening_refused}
 use Rattle.opening.proofs.open_formed.Goals as goal

@@ -1,6 +1,5 @@
 use mathlib.Core.Path.{ap, ◌∙◌}
 use native.Mathlib.Omega.{arith}
-use borrow.Author.Rules.{rules}
 use Rattle.rules.specs.Refusals.{read_of}
 use Rattle.laws.proofs.AnswerLaws.{via}
 use Rattle.laws.proofs.RefusalLaws.{table_long, late_refused, table_is}

@@ -1,6 +1,5 @@
 use mathlib.Core.Path.{sym, ap, ◌∙◌}
 use native.Mathlib.Omega.{arith}
-use borrow.Author.Rules.{rules}
 use Rattle.rules.specs.Facts.{Join}
 use Rattle.words.specs.Words.{table_of}
 use Rattle.laws.proofs.CountLaws.{prefix_short, method_positions}

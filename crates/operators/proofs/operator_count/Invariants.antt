@@ -1,15 +1,10 @@
-use mathlib.Core.Path.{◌≡◌, sym, ap, ◌∙◌}
-use Prim.Native.Nat.{ℕ, ◌+◌, ◌-◌, ◌*◌, ◌≤◌}
-use native.Mathlib.Omega.{arith}
-use native.Mathlib.Nat.{add-zero, mul-le-mul_right}
-use borrow.Author.Rules.{rules}
+use mathlib.Core.Path.{◌≡◌}
+use Prim.Native.Nat.{◌+◌, ◌-◌, ◌*◌, ◌≤◌}
 use Rattle.basics.specs.Lists.{sum_to}
 use Rattle.rules.specs.Tables.{action_count, method_count}
 use Rattle.rules.specs.Progression.{mth}
 use Rattle.rules.specs.Operators.{positions}
 use Rattle.words.specs.Words.{table_of}
-use Rattle.laws.proofs.ListLaws.{sum_more}
-use Rattle.laws.proofs.CountLaws.{few_operators, operators_length}
 use Rattle.operators.proofs.operator_count.Given as goal
 
 abbrev pub invariant-loop-k : goal.invariant-loop-k

@@ -1,9 +1,8 @@
 use mathlib.Core.Path.{◌≡◌, refl, sym, ap, ◌∙◌, subst}
-use Prim.Native.Nat.{◌+◌, ◌-◌}
+use Prim.Native.Nat.{◌+◌}
 use native.Mathlib.Omega.{arith}
-use borrow.Author.Rules.{rules}
-use lib.ListN.{length, get_or}
-use Rattle.rules.specs.Tables.{action_count, action, method}
+use lib.ListN.{get_or}
+use Rattle.rules.specs.Tables.{action, method}
 use Rattle.rules.specs.Facts.{Join, join_one}
 use Rattle.words.specs.Words.{table_of}
 use Rattle.facts.specs.Sets.{join_read}

@@ -1,13 +1,10 @@
-use mathlib.Core.Path.{◌≡◌, refl, sym, ap, ◌∙◌, subst}
-use Prim.Native.Nat.{◌+◌, ◌-◌}
-use native.Mathlib.Omega.{arith}
-use borrow.Author.Rules.{rules}
-use lib.ListN.{length, get_or}
-use Rattle.rules.specs.Tables.{action_count, action, method}
-use Rattle.rules.specs.Facts.{Join, join_one}
+use mathlib.Core.Path.{◌≡◌}
+use Prim.Native.Nat.{◌-◌}
+use lib.ListN.{length}
+use Rattle.rules.specs.Tables.{action_count, method}
 use Rattle.words.specs.Words.{table_of}
 use Rattle.facts.specs.Sets.{join_read}
-use Rattle.operators.proofs.PrefixLaws.{Joining, joining_begins, joining_more, joining_stops, joining_ends, plain_prefix, whole_prefix}
+use Rattle.operators.proofs.PrefixLaws.{Joining}
 use Rattle.operators.proofs.prefix_of.Given as goal
 
 abbrev pub invariant-loop-count : goal.invariant-loop-count

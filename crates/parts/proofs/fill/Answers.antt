@@ -1,13 +1,10 @@
-use Prim.Native.Nat.{◌+◌, ◌*◌, ◌-◌, ◌≤◌}
+use Prim.Native.Nat.{◌-◌}
 use mathlib.Core.Path.{◌≡◌, sym, ◌∙◌}
-use mathlib.Core.List.{◌++◌, append-nil}
+use mathlib.Core.List.{append-nil}
 use native.Mathlib.Omega.{arith}
-use lib.ListN.{length, take}
-use Rattle.basics.specs.Lists.{upto}
 use Rattle.laws.specs.Steps.{step_text}
 use Rattle.words.specs.Words.{table_of}
 use Rattle.text.proofs.AppendLaws.{appends_is}
-use Rattle.template.specs.Sizes.{step_text_bytes}
 use Rattle.parts.specs.Pieces.{problem_piece}
 use Rattle.parts.proofs.PieceLaws.{part_more, piece_of_step}
 use Rattle.report.proofs.PartLaws.{part_says, part_moves}

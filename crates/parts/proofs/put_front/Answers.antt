@@ -2,7 +2,6 @@ use native.Mathlib.Omega.{arith}
 use Rattle.laws.specs.Steps.{front_text}
 use Rattle.text.proofs.AppendLaws.{◌▸◌}
 use Rattle.text.proofs.PutLaws.{appended}
-use borrow.Author.Rules.{rules}
 use Rattle.parts.proofs.put_front.Goals as goal
 
 pub returns : goal.returns

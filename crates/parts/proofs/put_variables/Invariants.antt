@@ -1,17 +1,12 @@
-use borrow.Author.Rules.{rules}
 use Prim.Native.Nat.{◌+◌, ◌*◌, ◌-◌, ◌≤◌}
-use mathlib.Core.Path.{◌≡◌, ap}
-use native.Mathlib.Omega.{arith}
+use mathlib.Core.Path.{◌≡◌}
 use Rattle.basics.specs.Lists.{upto}
 use Rattle.rules.specs.Limits.{most_section_bytes}
 use Rattle.rules.specs.Problems.{variable_count}
 use Rattle.laws.specs.Steps.{variable_text}
-use Rattle.laws.proofs.TextLaws.{upto_more}
 use Rattle.words.specs.Words.{table_of}
 use Rattle.problem.specs.Sizes.{most_variables}
 use Rattle.text.specs.Appends.{Appends}
-use Rattle.text.proofs.AppendLaws.{◌▸◌, appends_is, appends_none}
-use Rattle.text.proofs.PutLaws.{appended}
 use Rattle.parts.proofs.put_variables.Given as goal
 
 abbrev pub invariant-loop-v : goal.invariant-loop-v

@@ -2,7 +2,6 @@ use mathlib.Core.Path.{sym, ap, ◌∙◌}
 use Rattle.basics.specs.Answers.{length_of}
 use Rattle.rules.specs.Refusals.{one_section}
 use Rattle.opening.proofs.OpeningLaws.{goes_on}
-use borrow.Author.Rules.{rules}
 use Rattle.placing.proofs.measure.Goals as goal
 
 pub measured-requires : goal.measured-requires

@@ -1,4 +1,3 @@
-use borrow.Author.Rules.{rules}
 use lib.ListN.{length}
 use Rattle.rules.specs.Sections.{sections_of}
 use Rattle.rules.specs.Refusals.{chosen}

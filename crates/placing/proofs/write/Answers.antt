@@ -9,7 +9,6 @@ use Rattle.words.specs.Words.{table_of}
 use Rattle.laws.proofs.RefusalLaws.{kept}
 use Rattle.opening.proofs.OpeningLaws.{goes_on}
 use Rattle.placing.proofs.SectionCallLaws.{part_room, part_back, kept_past}
-use borrow.Author.Rules.{rules}
 use Rattle.placing.proofs.write.Goals as goal
 
 pub measured-requires : goal.measured-requires
@@ -47,6 +46,9 @@ returns-else-text-from c =
     let l = c.if-text-from.false in
     let e = goes_on c.«open».ensures c.in-Opened.is (λ t. section_for a.bound a.form t a.index (length old) a.at) in
     let q = part_room old a.at l x ∙ sym e in
-    let done = c.put.ensures in record { result_value = done.result_value ∙ ap length_of q; text_after = ap (put_mid a.at (length old - a.at) old) done.part_after
+    let done = c.put.ensures in record {
+      result_value = done.result_value ∙ ap length_of q;
+      text_after = ap (put_mid a.at (length old - a.at) old) done.part_after
           ∙ part_back old a.at l (after x (room_for (length (take (length old - a.at) (drop a.at old))) 0))
-          ∙ ap (written old a.at) q }
+          ∙ ap (written old a.at) q;
+    }

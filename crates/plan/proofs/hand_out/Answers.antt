@@ -8,7 +8,6 @@ use Rattle.run.specs.Runs.{Few}
 use Rattle.checker.specs.Notes.{NotesHeld}
 use Rattle.plan.specs.NoteBytes.{note_bytes}
 use Rattle.plan.proofs.NoteByteLaws.{notes_long, notes_taken, notes_kept, notes_written}
-use borrow.Author.Rules.{rules}
 use Rattle.plan.proofs.hand_out.Goals as goal
 
 pub overflow_mul-count : goal.overflow_mul-count
@@ -34,5 +33,8 @@ returns-in-Refused c = record { value = sym c.in-Refused.is; steps_after = rw c.
 pub returns-else-steps-count : goal.returns-else-steps-count
 returns-else-steps-count c = let e = c.in-Accepted.is in
     let h = subst (λ (v : Verdict). NotesHeld c.args.form (table_of c.args.words.now) c.args.notes.now v) e c.requires.few.1 in
-    let old = c.args.steps.now in record { value = sym e; steps_after = notes_written h old c.if-steps-count.false c.put_all.ensures
-          ∙ ap (λ (v : Verdict). written old 0 (note_bytes c.args.form (table_of c.args.words.now) c.args.notes.now v (length old))) (sym e) }
+    let old = c.args.steps.now in record {
+      value = sym e;
+      steps_after = notes_written h old c.if-steps-count.false c.put_all.ensures
+          ∙ ap (λ (v : Verdict). written old 0 (note_bytes c.args.form (table_of c.args.words.now) c.args.notes.now v (length old))) (sym e);
+    }

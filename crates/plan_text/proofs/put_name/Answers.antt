@@ -2,7 +2,6 @@ use native.Mathlib.Omega.{arith}
 use Rattle.words.specs.Words.{table_of}
 use Rattle.text.proofs.PutLaws.{puts_is}
 use Rattle.plan_text.proofs.PlanLineLaws.{action_name, method_name, method_number}
-use borrow.Author.Rules.{rules}
 use Rattle.plan_text.proofs.put_name.Goals as goal
 
 pub returns-then-number-actions : goal.returns-then-number-actions

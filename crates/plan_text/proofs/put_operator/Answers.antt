@@ -2,7 +2,6 @@ use native.Mathlib.Omega.{arith}
 use Rattle.words.specs.Words.{table_of}
 use Rattle.text.proofs.PutLaws.{◌▹◌, puts_is}
 use Rattle.plan_text.proofs.PlanLineLaws.{line_parts}
-use borrow.Author.Rules.{rules}
 use Rattle.plan_text.proofs.put_operator.Goals as goal
 
 pub put_name-name-requires : goal.put_name-name-requires

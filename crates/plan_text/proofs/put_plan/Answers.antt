@@ -1,15 +1,12 @@
 use mathlib.Core.Path.{◌≡◌, ap}
-use Prim.Native.Nat.{ℕ, ◌*◌, ◌-◌, ◌≤◌}
+use Prim.Native.Nat.{ℕ}
 use native.Mathlib.Omega.{arith}
 use Rattle.basics.specs.Lists.{rows}
 use Rattle.rules.specs.Plans.{texts_of}
 use Rattle.words.specs.Words.{table_of}
 use Rattle.trail.specs.Trails.{marked}
-use Rattle.text.specs.Puts.{Puts}
 use Rattle.text.proofs.PutLaws.{◌▹◌, puts_is, puts_none}
-use Rattle.plan_text.specs.PlanLines.{line_bytes}
 use Rattle.plan_text.proofs.PlanLineLaws.{texts_more}
-use borrow.Author.Rules.{rules}
 use Rattle.plan_text.proofs.put_plan.Goals as goal
 
 pub loop-i-init : goal.loop-i-init

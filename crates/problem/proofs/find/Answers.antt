@@ -2,7 +2,6 @@ use mathlib.Core.Path.{◌≡◌, ap, subst}
 use Prim.Native.Nat.{ℕ, ◌+◌, ◌-◌, ◌*◌}
 use native.Mathlib.Omega.{arith}
 use native.Mathlib.Nat.{mul-le-mul_right}
-use borrow.Author.Rules.{rules}
 use Rattle.rules.specs.Tables.{action_count}
 use Rattle.words.specs.Words.{table_of}
 use Rattle.problem.specs.Places.{IsFound}

@@ -1,9 +1,8 @@
-use mathlib.Core.Path.{◌≡◌, sym, subst}
-use Prim.Native.Nat.{ℕ, ◌+◌, ◌-◌, ◌*◌, ◌≤◌}
+use mathlib.Core.Path.{sym, subst}
+use Prim.Native.Nat.{ℕ, ◌+◌, ◌*◌}
 use native.Mathlib.Omega.{arith}
-use borrow.Author.Rules.{rules}
 use Rattle.basics.specs.Lists.{sum_to}
-use Rattle.rules.specs.Tables.{action_count, method_count}
+use Rattle.rules.specs.Tables.{action_count}
 use Rattle.rules.specs.Progression.{mth}
 use Rattle.rules.specs.Operators.{positions}
 use Rattle.laws.proofs.ListLaws.{sum_more}

@@ -1,15 +1,10 @@
-use mathlib.Core.Path.{◌≡◌, sym, subst}
-use Prim.Native.Nat.{ℕ, ◌+◌, ◌-◌, ◌*◌, ◌≤◌}
-use native.Mathlib.Omega.{arith}
-use borrow.Author.Rules.{rules}
+use mathlib.Core.Path.{◌≡◌}
+use Prim.Native.Nat.{◌+◌, ◌-◌, ◌≤◌}
 use Rattle.basics.specs.Lists.{sum_to}
 use Rattle.rules.specs.Tables.{action_count, method_count}
 use Rattle.rules.specs.Progression.{mth}
 use Rattle.rules.specs.Operators.{positions}
-use Rattle.laws.proofs.ListLaws.{sum_more}
 use Rattle.words.specs.Words.{table_of}
-use Rattle.problem.specs.Places.{IsPlace}
-use Rattle.problem.proofs.PlaceLaws.{method_place, past_all}
 use Rattle.problem.proofs.method_at.Given as goal
 
 abbrev pub invariant-loop-k : goal.invariant-loop-k

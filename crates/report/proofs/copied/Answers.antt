@@ -2,7 +2,6 @@ use mathlib.Core.Path.{sym}
 use native.Mathlib.Omega.{arith}
 use lib.Seq.{length-take-le}
 use Rattle.report.proofs.InputLaws.{copied_read}
-use borrow.Author.Rules.{rules}
 use Rattle.report.proofs.copied.Goals as goal
 
 pub slice_bounds-copy-end : goal.slice_bounds-copy-end

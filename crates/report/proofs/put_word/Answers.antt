@@ -1,6 +1,5 @@
 use native.Mathlib.Omega.{arith}
 use Rattle.text.proofs.PutLaws.{◌▹◌, appended}
-use borrow.Author.Rules.{rules}
 use Rattle.report.proofs.put_word.Goals as goal
 
 pub returns : goal.returns

@@ -4,7 +4,6 @@ use Rattle.basics.specs.Texts.{bytes, digits}
 use Rattle.text.proofs.AppendLaws.{◌▸◌, appends_is}
 use Rattle.rules.specs.Programs.{refused_line}
 use Rattle.report.proofs.ReportLaws.{three_words}
-use borrow.Author.Rules.{rules}
 use Rattle.report.proofs.refused.Goals as goal
 
 pub returns : goal.returns
@@ -12,5 +11,8 @@ unfolding refused_line
 returns c =
     let a = c.args in
     let first = appended c.put-first.ensures (omega (arith, c.put-first.ensures.next, c.requires)) in
-    let feed = appended c.put.ensures (omega (arith, c.put-first.ensures.next, first.size, c.put_word-second.ensures.upper_bound, c.put_word-end.ensures.upper_bound, c.put_word-second.ensures.appends.size, c.put_word-end.ensures.appends.size, c.put.ensures.next, c.requires)) in record { appends = appends_is (three_words (bytes "refused") (digits a.number) (digits a.place))
-          (first ▸ c.put_word-second.ensures.appends ▸ c.put_word-end.ensures.appends ▸ feed); upper_bound = omega (arith, c.put-first.ensures.next, c.put_word-second.ensures.upper_bound, c.put_word-end.ensures.upper_bound, c.put.ensures.next) }
+    let feed = appended c.put.ensures (omega (arith, c.put-first.ensures.next, first.size, c.put_word-second.ensures.upper_bound, c.put_word-end.ensures.upper_bound, c.put_word-second.ensures.appends.size, c.put_word-end.ensures.appends.size, c.put.ensures.next, c.requires)) in record {
+      appends = appends_is (three_words (bytes "refused") (digits a.number) (digits a.place))
+          (first ▸ c.put_word-second.ensures.appends ▸ c.put_word-end.ensures.appends ▸ feed);
+      upper_bound = omega (arith, c.put-first.ensures.next, c.put_word-second.ensures.upper_bound, c.put_word-end.ensures.upper_bound, c.put.ensures.next);
+    }

@@ -1,14 +1,13 @@
-use mathlib.Core.Path.{◌≡◌, ap}
-use Prim.Native.Nat.{ℕ, ◌-◌, ◌≤◌, max}
+use mathlib.Core.Path.{ap}
+use Prim.Native.Nat.{ℕ, max}
 use native.Mathlib.Omega.{arith}
 use lib.ListN.{drop}
 use Rattle.rules.specs.Tables.{method}
-use Rattle.rules.specs.LeastBounds.{rise, method_bound}
+use Rattle.rules.specs.LeastBounds.{rise}
 use Rattle.words.specs.Words.{table_of}
 use Rattle.words.proofs.ViewLaws.{subtask_low, width_small}
 use Rattle.laws.proofs.CountLaws.{prefix_short}
 use Rattle.rising.proofs.RiseLaws.{bound_turn, bound_end}
-use borrow.Author.Rules.{rules}
 use Rattle.rising.proofs.method_bound.Goals as goal
 
 pub loop-j-init : goal.loop-j-init

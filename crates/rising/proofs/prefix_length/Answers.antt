@@ -1,12 +1,11 @@
-use mathlib.Core.Path.{◌≡◌, sym, ap, ◌∙◌}
-use Prim.Native.Nat.{ℕ, ◌-◌, ◌≤◌}
+use mathlib.Core.Path.{sym, ap, ◌∙◌}
+use Prim.Native.Nat.{ℕ}
 use native.Mathlib.Omega.{arith}
 use lib.ListN.{length}
 use Rattle.rules.specs.Tables.{action_count, method}
 use Rattle.rules.specs.Progression.{prefix}
-use Rattle.laws.proofs.LeadingLaws.{Counted, leading_stops, leading_ends, counted_more, counted_all, prefix_leads}
+use Rattle.laws.proofs.LeadingLaws.{leading_stops, leading_ends, counted_more, counted_all, prefix_leads}
 use Rattle.words.specs.Words.{table_of}
-use borrow.Author.Rules.{rules}
 use Rattle.rising.proofs.prefix_length.Goals as goal
 
 pub returns-then-form-eq0 : goal.returns-then-form-eq0

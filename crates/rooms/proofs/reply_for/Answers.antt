@@ -1,4 +1,3 @@
-use borrow.Author.Rules.{rules}
 use Rattle.rooms.proofs.reply_for.Goals as goal
 
 pub returns-in-Refused : goal.returns-in-Refused

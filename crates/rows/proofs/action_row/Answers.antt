@@ -5,7 +5,6 @@ use Rattle.rules.specs.Facts.{join_one}
 use Rattle.words.specs.Words.{table_of}
 use Rattle.facts.specs.Sets.{join_read}
 use Rattle.rows.proofs.RowLaws.{action_stored}
-use borrow.Author.Rules.{rules}
 use Rattle.rows.proofs.action_row.Goals as goal
 
 pub overflow_cast-k : goal.overflow_cast-k

@@ -1,7 +1,6 @@
 use mathlib.Core.Path.{refl, ◌≡◌, sym, subst, ◌∙◌}
-use Prim.Native.Nat.{ℕ, ◌-◌, ◌≤◌, ◌<◌}
+use Prim.Native.Nat.{ℕ, ◌<◌}
 use native.Mathlib.Omega.{arith}
-use lib.ListN.{length}
 use Rattle.rules.specs.Tables.{action_count}
 use Rattle.rules.specs.Progression.{Step}
 use Rattle.words.specs.Words.{table_of}
@@ -9,7 +8,6 @@ use Rattle.rows.specs.Rows.{row_of}
 use Rattle.rows.specs.Stores.{PreparedTo, Stored}
 use Rattle.laws.proofs.StepNumbers.{step_action}
 use Rattle.rows.proofs.RowLaws.{prepared_more}
-use borrow.Author.Rules.{rules}
 use Rattle.rows.proofs.action_rows.Goals as goal
 
 pub loop-k-init : goal.loop-k-init

@@ -7,7 +7,6 @@ use Rattle.laws.proofs.CountLaws.{prefix_short}
 use Rattle.laws.proofs.TableLaws.{head_low}
 use Rattle.facts.specs.Sets.{join_read}
 use Rattle.rows.proofs.RowLaws.{method_stored, last_low}
-use borrow.Author.Rules.{rules}
 use Rattle.rows.proofs.method_row.Goals as goal
 
 pub put_rest-requires : goal.put_rest-requires

@@ -1,7 +1,6 @@
 use mathlib.Core.Path.{refl, ◌≡◌, ap, sym, subst, ◌∙◌}
-use Prim.Native.Nat.{ℕ, ◌+◌, ◌-◌, ◌≤◌, ◌<◌}
+use Prim.Native.Nat.{ℕ, ◌+◌, ◌<◌}
 use native.Mathlib.Omega.{arith}
-use lib.ListN.{length}
 use Rattle.rows.specs.Sizes.{most_rows}
 use Rattle.rules.specs.Tables.{action_count, method_count}
 use Rattle.rules.specs.Progression.{Step, mth}
@@ -11,7 +10,6 @@ use Rattle.laws.specs.Steps.{step_at}
 use Rattle.rows.specs.Stores.{PreparedTo, Stored}
 use Rattle.laws.proofs.StepNumbers.{step_method}
 use Rattle.rows.proofs.RowLaws.{prepared_more}
-use borrow.Author.Rules.{rules}
 use Rattle.rows.proofs.method_rows.Goals as goal
 
 pub loop-k-init : goal.loop-k-init

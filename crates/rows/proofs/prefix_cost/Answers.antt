@@ -1,6 +1,6 @@
 use mathlib.Core.Path.{◌≡◌, ap, ◌∙◌}
 use mathlib.Core.List.{List, [], map}
-use Prim.Native.Nat.{ℕ, ◌+◌, ◌-◌, ◌≤◌, ◌<◌}
+use Prim.Native.Nat.{ℕ, ◌<◌}
 use native.Mathlib.Omega.{arith}
 use lib.ListN.{length, drop, drop_of_length-le}
 use Rattle.rules.specs.Tables.{Action, action}
@@ -8,7 +8,6 @@ use Rattle.rules.specs.Progression.{act, prefix, total_cost}
 use Rattle.laws.proofs.CountLaws.{prefix_short}
 use Rattle.words.specs.Words.{table_of}
 use Rattle.laws.proofs.CostLaws.{prefix_action, cost_more, prefix_cheap}
-use borrow.Author.Rules.{rules}
 use Rattle.rows.proofs.prefix_cost.Goals as goal
 
 pub loop-j-init : goal.loop-j-init

@@ -1,14 +1,9 @@
-use mathlib.Core.Path.{◌≡◌, ap, ◌∙◌}
-use mathlib.Core.List.{List, [], map}
-use Prim.Native.Nat.{ℕ, ◌+◌, ◌-◌, ◌≤◌, ◌<◌}
-use native.Mathlib.Omega.{arith}
-use lib.ListN.{length, drop, drop_of_length-le}
-use Rattle.rules.specs.Tables.{Action, action}
+use mathlib.Core.Path.{◌≡◌}
+use mathlib.Core.List.{map}
+use Prim.Native.Nat.{◌+◌, ◌-◌, ◌≤◌}
+use lib.ListN.{drop}
 use Rattle.rules.specs.Progression.{act, prefix, total_cost}
-use Rattle.laws.proofs.CountLaws.{prefix_short}
 use Rattle.words.specs.Words.{table_of}
-use Rattle.laws.proofs.CostLaws.{prefix_action, cost_more, prefix_cheap}
-use borrow.Author.Rules.{rules}
 use Rattle.rows.proofs.prefix_cost.Given as goal
 
 abbrev pub invariant-loop-j : goal.invariant-loop-j

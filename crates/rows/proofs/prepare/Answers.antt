@@ -1,7 +1,6 @@
 use native.Mathlib.Omega.{arith}
 use Rattle.words.specs.Words.{table_of}
 use Rattle.rows.proofs.RowLaws.{prepared_all}
-use borrow.Author.Rules.{rules}
 use Rattle.rows.proofs.prepare.Goals as goal
 
 pub method_rows-requires : goal.method_rows-requires

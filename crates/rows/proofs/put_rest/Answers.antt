@@ -1,8 +1,8 @@
 use mathlib.Core.Path.{◌≡◌, refl, ap, ◌∙◌}
 use mathlib.Core.List.{List}
-use Prim.Native.Nat.{ℕ, ◌+◌, ◌-◌, ◌≤◌, ◌<◌}
+use Prim.Native.Nat.{ℕ, ◌+◌, ◌-◌, ◌<◌}
 use native.Mathlib.Omega.{arith}
-use lib.ListN.{length, get_or, take, drop, length-set, length-drop}
+use lib.ListN.{length, get_or, drop, length-set, length-drop}
 use lib.Seq.{take-set-le}
 use Rattle.rules.specs.Limits.{most_tasks}
 use Rattle.rules.specs.Tables.{method_count, method}
@@ -10,7 +10,6 @@ use Rattle.words.specs.Words.{table_of, Held}
 use Rattle.words.proofs.ViewLaws.{subtask_low, width_small}
 use Rattle.rows.specs.Stacks.{stack_of}
 use Rattle.rows.proofs.StackLaws.{push_none, push_more}
-use borrow.Author.Rules.{rules}
 use Rattle.rows.proofs.put_rest.Goals as goal
 
 pub overflow_sub-left : goal.overflow_sub-left

@@ -2,7 +2,6 @@ use native.Mathlib.Omega.{arith}
 use mathlib.Core.Path.{refl}
 use lib.ListN.{length-set}
 use Rattle.rows.proofs.RowLaws.{put_tail}
-use borrow.Author.Rules.{rules}
 use Rattle.rows.proofs.put_tail.Goals as goal
 
 pub bounds-cells-c-2 : goal.bounds-cells-c-2

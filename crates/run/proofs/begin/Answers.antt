@@ -5,7 +5,6 @@ use native.Mathlib.Omega.{arith}
 use lib.ListN.{length, length-set}
 use lib.Seq.{get_or-set_same}
 use Rattle.rows.specs.Stacks.{stack_of}
-use borrow.Author.Rules.{rules}
 use Rattle.run.proofs.begin.Goals as goal
 
 pub returns : goal.returns

@@ -3,7 +3,6 @@ use Prim.Native.Nat.{ℕ, ◌+◌}
 use native.Mathlib.Omega.{arith}
 use Rattle.rules.specs.Facts.{changed}
 use Rattle.facts.specs.Sets.{set_of}
-use borrow.Author.Rules.{rules}
 use Rattle.run.proofs.landed.Goals as goal
 
 pub overflow_add-spent : goal.overflow_add-spent

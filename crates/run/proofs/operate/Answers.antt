@@ -1,7 +1,6 @@
 use mathlib.Core.Path.{◌≡◌, sym, ap, ◌∙◌}
 use Prim.Native.Nat.{ℕ}
 use native.Mathlib.Omega.{arith}
-use borrow.Author.Rules.{rules}
 use Rattle.words.specs.Words.{table_of}
 use Rattle.laws.specs.Steps.{kind_step}
 use Rattle.rows.specs.Rows.{Row}
@@ -40,6 +39,10 @@ pub returns : goal.returns
 returns c = let t = table_of c.args.words.now in
     let i = same_index c.args.kind c.args.number c.action_count-actions.ensures c.method_count-methods.ensures c.row_index-row.ensures in
     let q = row_found c.requires.ready.rows c.args.number c.args.kind (omega (arith, i, c.action_count-actions.ensures, c.method_count-methods.ensures, c.if-actions-methods.false)) in
-    let p = point_of c.args.t c.args.stack.now in record { stack_after = c.turn-turned.ensures.stack_after
+    let p = point_of c.args.t c.args.stack.now in record {
+      stack_after = c.turn-turned.ensures.stack_after
           ∙ ap (λ (r : Row). step_row r c.args.pos p) (rw i q.row)
-          ∙ step_document c.args.form t c.args.bound (kind_step c.args.kind c.args.number) c.args.pos p q.known; stack_len_2 = c.turn-turned.ensures.stack_len_2; row_of = λ z. rw i q.its }
+          ∙ step_document c.args.form t c.args.bound (kind_step c.args.kind c.args.number) c.args.pos p q.known;
+      stack_len_2 = c.turn-turned.ensures.stack_len_2;
+      row_of = λ z. rw i q.its;
+    }

@@ -1,5 +1,4 @@
 use mathlib.Core.Path.{sym, ◌∙◌}
-use borrow.Author.Rules.{rules}
 use borrow.Author.Tests.{lt-ltb, le-ltb}
 use Rattle.run.specs.Ready.{row_index}
 use Rattle.run.proofs.RowIndexLaws.{method_index}

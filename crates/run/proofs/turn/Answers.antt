@@ -1,14 +1,11 @@
 use mathlib.Core.Path.{◌≡◌, sym, ap, ◌∙◌}
 use Prim.Native.Nat.{ℕ, ◌≤◌, ◌<◌}
 use native.Mathlib.Omega.{arith}
-use borrow.Author.Tests.{not-true, not-false}
 use Rattle.rules.specs.Facts.{holds}
 use Rattle.facts.specs.Sets.{set_of}
 use Rattle.rows.specs.Rows.{row_at}
 use Rattle.run.specs.Steps.{Point}
 use Rattle.run.proofs.RowLaws.{row_low, row_high, row_other_height, row_other_task, row_needs, row_done, refusing, landed_point, landed_ok}
-use borrow.Author.Rules.{rules}
-use borrow.Author.Rules.{rules}
 use Rattle.run.proofs.turn.Goals as goal
 
 pub returns-then-pos-lt1 : goal.returns-then-pos-lt1
@@ -54,5 +51,8 @@ returns c =
     let top = sym c.wide-top.ensures ∙ c.if-top-task.false ∙ c.task-task.ensures in
     let h = c.holds.ensures ∙ ap (λ (n : ℕ). holds n (set_of a.t.facts)) c.needs-needs.ensures in
     let push = c.push.ensures in
-    let ok = c.requires.row_ok in record { stack_after = ap (λ (p : Point). record { number = 0; point = p }) (landed_point c.landed-progress.ensures a.stack.now _ push)
-          ∙ row_done row a.pos a.t a.stack.now c.if-pos-lt1.false g q top (sym h ∙ c.if-not-holds.false); stack_len_2 = (push.size ∙ c.requires.stack_len.0, landed_ok c.landed-progress.ensures c.requires.stack_len.1 c.requires.operators_lt_most_operators ok.steps ok.cost (omega (arith, g, q, ok.height))) }
+    let ok = c.requires.row_ok in record {
+      stack_after = ap (λ (p : Point). record { number = 0; point = p }) (landed_point c.landed-progress.ensures a.stack.now _ push)
+          ∙ row_done row a.pos a.t a.stack.now c.if-pos-lt1.false g q top (sym h ∙ c.if-not-holds.false);
+      stack_len_2 = (push.size ∙ c.requires.stack_len.0, landed_ok c.landed-progress.ensures c.requires.stack_len.1 c.requires.operators_lt_most_operators ok.steps ok.cost (omega (arith, g, q, ok.height)));
+    }

@@ -6,7 +6,6 @@ use borrow.Author.Tests.{le-leb, lt-leb}
 use native.Mathlib.Omega.{arith}
 use mathlib.Core.Path.{◌≡◌, sym, ap, ◌∙◌}
 use Prim.Native.Nat.{◌+◌}
-use borrow.Author.Rules.{rules}
 use Rattle.seeking.proofs.finding_for.Goals as goal
 
 pub returns-then-size-bytes : goal.returns-then-size-bytes

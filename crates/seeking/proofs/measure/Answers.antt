@@ -6,7 +6,6 @@ use Rattle.laws.proofs.RefusalLaws.{limits_held}
 use Rattle.rules.specs.Refusals.{sought_in, search_plan}
 use Rattle.basics.specs.Answers.{Answer, after}
 use mathlib.Core.Path.{sym, ap, ◌∙◌}
-use borrow.Author.Rules.{rules}
 use Rattle.seeking.proofs.measure.Goals as goal
 
 pub seek-finding-requires : goal.seek-finding-requires

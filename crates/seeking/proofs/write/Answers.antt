@@ -7,7 +7,6 @@ use Rattle.rules.specs.Refusals.{Sought, sought_in, search_plan, text_found, wri
 use Rattle.basics.specs.Answers.{Answer, after}
 use lib.ListN.{length}
 use mathlib.Core.Path.{sym, ap, ◌∙◌}
-use borrow.Author.Rules.{rules}
 use Rattle.seeking.proofs.write.Goals as goal
 
 pub seek-finding-requires : goal.seek-finding-requires

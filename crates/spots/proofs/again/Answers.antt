@@ -1,7 +1,6 @@
 use lib.ListN.{set}
 use mathlib.Core.Path.{ap}
 use Prim.Native.Nat.{◌-◌}
-use borrow.Author.Rules.{rules}
 use Rattle.spots.proofs.again.Goals as goal
 
 pub returns : goal.returns

@@ -5,7 +5,6 @@ use lib.ListN.{set}
 use Prim.Native.Nat.{ℕ, ◌-◌}
 use mathlib.Core.Path.{◌≡◌, ap, ◌∙◌}
 use native.Mathlib.Omega.{arith}
-use borrow.Author.Rules.{rules}
 use Rattle.spots.proofs.back.Goals as goal
 
 pub overflow_cast-stack : goal.overflow_cast-stack

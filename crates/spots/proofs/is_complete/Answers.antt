@@ -4,7 +4,6 @@ use Rattle.rules.specs.Facts.{holds}
 use Prim.Native.Nat.{ℕ}
 use mathlib.Core.Path.{ap, ◌∙◌}
 use Rattle.spots.proofs.SpotLaws.{complete_high, complete_empty}
-use borrow.Author.Rules.{rules}
 use Rattle.spots.proofs.is_complete.Goals as goal
 
 pub returns-then-height-ne0 : goal.returns-then-height-ne0

@@ -7,7 +7,6 @@ use Rattle.run.specs.Steps.{Point}
 use Rattle.run.specs.Steps.{state_of}
 use Rattle.spots.specs.declared.Spot.{Spot}
 use mathlib.Core.Path.{ap, ◌∙◌}
-use borrow.Author.Rules.{rules}
 use Rattle.spots.proofs.start.Goals as goal
 
 pub returns : goal.returns

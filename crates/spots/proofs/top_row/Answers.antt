@@ -2,7 +2,6 @@ use Rattle.spots.proofs.SpotLaws.{top_limit, top_empty, top_strange, top_first}
 use Rattle.links.specs.Links.{first_in}
 use mathlib.Core.Path.{ap, ◌∙◌}
 use native.Mathlib.Omega.{arith}
-use borrow.Author.Rules.{rules}
 use Rattle.spots.proofs.top_row.Goals as goal
 
 pub returns-then-rest-eq0 : goal.returns-then-rest-eq0

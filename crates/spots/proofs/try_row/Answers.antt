@@ -3,11 +3,9 @@ use Rattle.rows.specs.Stacks.{stack_of}
 use Rattle.rows.specs.Rows.{row_at}
 use Rattle.facts.specs.Sets.{set_of}
 use Rattle.rules.specs.Facts.{holds, changed}
-use borrow.Author.Tests.{not-true, not-false}
 use native.Mathlib.Omega.{arith}
 use mathlib.Core.Path.{sym, ap, ◌∙◌}
 use Prim.Native.Nat.{ℕ, ◌+◌, ◌-◌, ◌≤◌}
-use borrow.Author.Rules.{rules}
 use Rattle.spots.proofs.try_row.Goals as goal
 
 pub returns-then-last-height : goal.returns-then-last-height

@@ -1,4 +1,3 @@
-use borrow.Author.Rules.{rules}
 use native.Mathlib.Omega.{arith}
 use Rattle.drawing.proofs.DrawLaws.{◌▹◌, draws_is, space_after, room_less}
 use Rattle.stack_lines.proofs.StackLineLaws.{push_words}

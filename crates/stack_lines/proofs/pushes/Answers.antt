@@ -1,12 +1,10 @@
-use borrow.Author.Rules.{rules}
-use Prim.Native.Nat.{◌-◌, ◌≤◌, ◌<◌}
+use Prim.Native.Nat.{◌-◌, ◌<◌}
 use mathlib.Core.Path.{◌≡◌, refl, ap}
 use native.Mathlib.Omega.{arith}
 use lib.ListN.{length}
 use Rattle.basics.specs.Lists.{upto}
-use Rattle.drawing.specs.Draws.{Draws}
 use Rattle.rows.specs.Rows.{row_at}
-use Rattle.stack_lines.specs.StackLines.{pushed, push_many}
+use Rattle.stack_lines.specs.StackLines.{pushed}
 use Rattle.drawing.proofs.DrawLaws.{◌▹◌, draws_none, draws_is, room_after}
 use Rattle.stack_lines.proofs.StackLineLaws.{pushes_more}
 use Rattle.stack_lines.proofs.pushes.Goals as goal

@@ -1,4 +1,3 @@
-use borrow.Author.Rules.{rules}
 use Prim.Native.Nat.{ℕ}
 use native.Mathlib.Omega.{arith}
 use Rattle.drawing.proofs.DrawLaws.{◌▹◌, draws_none, draws_is, space_less, room_after}

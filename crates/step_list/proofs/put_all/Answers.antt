@@ -1,12 +1,9 @@
-use Prim.Native.Nat.{◌-◌, ◌≤◌}
 use mathlib.Core.Path.{ap, ◌∙◌}
 use native.Mathlib.Omega.{arith}
 use lib.ListN.{length}
-use lib.Seq.{sets, length-sets}
+use lib.Seq.{length-sets}
 use Rattle.words.specs.Words.{table_of}
-use Rattle.step_list.specs.RowSteps.{rows_bytes}
-use Rattle.step_list.proofs.StepListLaws.{Writing, writing_begins, all_written, row_room, row_written}
-use borrow.Author.Rules.{rules}
+use Rattle.step_list.proofs.StepListLaws.{writing_begins, all_written, row_room, row_written}
 use Rattle.step_list.proofs.put_all.Goals as goal
 
 pub loop-i-init : goal.loop-i-init

@@ -1,12 +1,9 @@
 use Prim.Native.Nat.{◌-◌, ◌≤◌}
-use mathlib.Core.Path.{ap, ◌∙◌}
-use native.Mathlib.Omega.{arith}
 use lib.ListN.{length}
-use lib.Seq.{sets, length-sets}
+use lib.Seq.{sets}
 use Rattle.words.specs.Words.{table_of}
 use Rattle.step_list.specs.RowSteps.{rows_bytes}
-use Rattle.step_list.proofs.StepListLaws.{Writing, writing_begins, all_written, row_room, row_written}
-use borrow.Author.Rules.{rules}
+use Rattle.step_list.proofs.StepListLaws.{Writing}
 use Rattle.step_list.proofs.put_all.Given as goal
 
 abbrev pub invariant-loop-i : goal.invariant-loop-i

@@ -5,7 +5,6 @@ use lib.ListN.{length}
 use Rattle.rules.specs.Progression.{prefix}
 use Rattle.words.specs.Words.{table_of}
 use Rattle.step_list.proofs.StepListLaws.{method_put}
-use borrow.Author.Rules.{rules}
 use Rattle.step_list.proofs.put_method.Goals as goal
 
 pub returns : goal.returns

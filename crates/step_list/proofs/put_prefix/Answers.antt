@@ -1,11 +1,9 @@
-use Prim.Native.Nat.{◌-◌, ◌≤◌, ◌<◌}
+use Prim.Native.Nat.{◌<◌}
 use mathlib.Core.Path.{◌≡◌, refl, ap, ◌∙◌}
-use mathlib.Core.List.{map}
 use native.Mathlib.Omega.{arith}
-use lib.ListN.{length, take}
-use lib.Seq.{sets, length-sets}
+use lib.ListN.{length}
+use lib.Seq.{length-sets}
 use Rattle.rules.specs.Tables.{method}
-use Rattle.rules.specs.Progression.{act}
 use Rattle.rules.specs.Checks.{step_bytes}
 use Rattle.words.specs.Words.{table_of}
 use Rattle.words.proofs.ViewLaws.{subtask_low}

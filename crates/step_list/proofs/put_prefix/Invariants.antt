@@ -1,16 +1,12 @@
-use Prim.Native.Nat.{◌-◌, ◌≤◌, ◌<◌}
-use mathlib.Core.Path.{◌≡◌, refl, ap, ◌∙◌}
+use Prim.Native.Nat.{◌-◌, ◌≤◌}
+use mathlib.Core.Path.{◌≡◌}
 use mathlib.Core.List.{map}
-use native.Mathlib.Omega.{arith}
-use lib.ListN.{length, take}
-use lib.Seq.{sets, length-sets}
+use lib.ListN.{take}
+use lib.Seq.{sets}
 use Rattle.rules.specs.Tables.{method}
 use Rattle.rules.specs.Progression.{act}
 use Rattle.rules.specs.Checks.{step_bytes}
 use Rattle.words.specs.Words.{table_of}
-use Rattle.words.proofs.ViewLaws.{subtask_low}
-use Rattle.step_list.proofs.StepListLaws.{one_more}
-use borrow.Author.Rules.{rules}
 use Rattle.step_list.proofs.put_prefix.Given as goal
 
 abbrev pub invariant-loop-j : goal.invariant-loop-j

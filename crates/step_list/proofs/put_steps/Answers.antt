@@ -5,7 +5,6 @@ use lib.ListN.{length}
 use lib.Seq.{sets}
 use Rattle.words.specs.Words.{table_of}
 use Rattle.step_list.proofs.StepListLaws.{action_bytes, method_row}
-use borrow.Author.Rules.{rules}
 use Rattle.step_list.proofs.put_steps.Goals as goal
 
 pub put_word-requires : goal.put_word-requires

@@ -1,7 +1,6 @@
 use native.Mathlib.Omega.{arith}
 use lib.ListN.{length-set}
 use Rattle.step_list.proofs.StepListLaws.{word_stored}
-use borrow.Author.Rules.{rules}
 use Rattle.step_list.proofs.put_word.Goals as goal
 
 pub bounds-out-at-2 : goal.bounds-out-at-2

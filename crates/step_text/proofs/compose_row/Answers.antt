@@ -1,4 +1,3 @@
-use borrow.Author.Rules.{rules}
 use native.Mathlib.Omega.{arith}
 use Rattle.rows.specs.Rows.{row_at}
 use Rattle.step_text.proofs.StepLaws.{fit_as, drawn_as}

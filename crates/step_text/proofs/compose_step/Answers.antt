@@ -1,4 +1,3 @@
-use borrow.Author.Rules.{rules}
 use mathlib.Core.Path.{◌∙◌}
 use Rattle.words.specs.Words.{table_of}
 use Rattle.step_text.proofs.StepLaws.{step_fit, step_count_lem, step_composed}
@@ -19,8 +18,11 @@ returns c =
     let row = c.one_row in
     let ops = row.new.ops in
     let cells = row.new.cells in
-    let drawn = c.compose_row-pen.ensures in record { composed = record {
+    let drawn = c.compose_row-pen.ensures in record {
+      composed = record {
         drawn = step_composed a.bound a.form t a.i ops cells row.ensures.cells_after drawn.drawn;
         most = drawn.count_bound.0;
         count = c.last-count.ensures ∙ step_count_lem a.bound a.form t a.i ops cells row.ensures.cells_after;
-      }; t_len_unchanged = drawn.count_bound.1 }
+      };
+      t_len_unchanged = drawn.count_bound.1;
+    }

@@ -1,4 +1,3 @@
-use borrow.Author.Rules.{rules}
 use native.Mathlib.Omega.{arith}
 use Rattle.text.proofs.AppendLaws.{appends_is}
 use Rattle.step_text.proofs.StepLaws.{step_few, step_drawn}

@@ -3,7 +3,6 @@ use Rattle.basics.specs.Readings.{got}
 use Rattle.numbers.specs.Answers.{num_of}
 use Rattle.rules.specs.Tables.{Action, read_action}
 use Rattle.laws.proofs.AnswerLaws.{via}
-use borrow.Author.Rules.{rules}
 use Rattle.table.proofs.read_action.Goals as goal
 
 pub returns-in-Bad : goal.returns-in-Bad

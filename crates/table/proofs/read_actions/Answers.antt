@@ -8,10 +8,8 @@ use Rattle.laws.proofs.ReadingLaws.{many_bad, turn}
 use Rattle.table.proofs.WordLaws.{action_kept}
 use Rattle.laws.proofs.StoreLaws.{kept_less}
 use mathlib.Core.Path.{◌≡◌, refl, ap, sym, subst, ◌∙◌}
-use Prim.Native.Nat.{ℕ, ◌≤◌, ◌-◌, ◌+◌, ◌*◌}
+use Prim.Native.Nat.{ℕ, ◌+◌, ◌*◌}
 use native.Mathlib.Omega.{arith}
-use lib.ListN.{length, take}
-use borrow.Author.Rules.{rules}
 use Rattle.table.proofs.read_actions.Goals as goal
 
 pub loop-k-init : goal.loop-k-init

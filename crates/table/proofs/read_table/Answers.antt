@@ -11,7 +11,6 @@ use Rattle.numbers.specs.declared.Onward.{Onward}
 use Rattle.laws.proofs.AnswerLaws.{via}
 use Rattle.table.proofs.WordLaws.{table_held}
 use Rattle.laws.proofs.TableLaws.{bounded}
-use borrow.Author.Rules.{rules}
 use Rattle.table.proofs.read_table.Goals as goal
 
 pub returns-in-Bad : goal.returns-in-Bad

@@ -4,7 +4,6 @@ use mathlib.Core.List.{[], ◌∷◌}
 use native.Mathlib.Omega.{arith}
 use Rattle.text.proofs.AppendLaws.{appends_is}
 use Rattle.template.proofs.FigureLaws.{figure_one, figure_two, figure_three}
-use borrow.Author.Rules.{rules}
 use Rattle.template.proofs.fill_figure.Goals as goal
 
 pub returns-then-n-lt10 : goal.returns-then-n-lt10

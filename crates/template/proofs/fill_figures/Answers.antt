@@ -1,14 +1,12 @@
-use Prim.Native.Nat.{ℕ, ◌*◌, ◌-◌, ◌≤◌}
+use Prim.Native.Nat.{ℕ}
 use mathlib.Core.Path.{◌≡◌, refl, ap, ◌∙◌}
 use native.Mathlib.Omega.{arith}
 use lib.ListN.{take}
 use Rattle.template.specs.Sizes.{figure_count, figure_bytes}
 use Rattle.basics.specs.Lists.{upto}
 use Rattle.laws.proofs.TextLaws.{upto_more}
-use Rattle.text.specs.Appends.{Appends}
 use Rattle.text.proofs.AppendLaws.{appends_none, appends_is, ◌▸◌}
 use Rattle.template.specs.Figures.{Figures, figure}
-use borrow.Author.Rules.{rules}
 use Rattle.template.proofs.fill_figures.Goals as goal
 
 pub loop-n-init : goal.loop-n-init

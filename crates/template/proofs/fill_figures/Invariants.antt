@@ -1,14 +1,9 @@
-use Prim.Native.Nat.{ℕ, ◌*◌, ◌-◌, ◌≤◌}
-use mathlib.Core.Path.{◌≡◌, refl, ap, ◌∙◌}
-use native.Mathlib.Omega.{arith}
-use lib.ListN.{take}
-use Rattle.template.specs.Sizes.{figure_count, figure_bytes}
+use Prim.Native.Nat.{◌*◌, ◌-◌, ◌≤◌}
+use mathlib.Core.Path.{◌≡◌}
+use Rattle.template.specs.Sizes.{figure_count}
 use Rattle.basics.specs.Lists.{upto}
-use Rattle.laws.proofs.TextLaws.{upto_more}
 use Rattle.text.specs.Appends.{Appends}
-use Rattle.text.proofs.AppendLaws.{appends_none, appends_is, ◌▸◌}
-use Rattle.template.specs.Figures.{Figures, figure}
-use borrow.Author.Rules.{rules}
+use Rattle.template.specs.Figures.{figure}
 use Rattle.template.proofs.fill_figures.Given as goal
 
 abbrev pub invariant-loop-n : goal.invariant-loop-n

@@ -2,7 +2,6 @@ use mathlib.Core.Path.{refl}
 use native.Mathlib.Omega.{arith}
 use lib.ListN.{length-set}
 use Rattle.template.proofs.TemplateLaws.{drawn_number}
-use borrow.Author.Rules.{rules}
 use Rattle.template.proofs.number.Goals as goal
 
 pub returns : goal.returns

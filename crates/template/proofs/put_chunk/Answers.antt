@@ -2,7 +2,6 @@ use Prim.Native.Nat.{◌+◌, ◌-◌}
 use mathlib.Core.Path.{refl}
 use native.Mathlib.Omega.{arith}
 use Rattle.template.proofs.ChunkLaws.{chunk_appends}
-use borrow.Author.Rules.{rules}
 use Rattle.template.proofs.put_chunk.Goals as goal
 
 pub returns : goal.returns

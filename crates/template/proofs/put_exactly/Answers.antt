@@ -1,5 +1,4 @@
-use borrow.Author.Rules.{rules}
-use Prim.Native.Nat.{ℕ, ◌+◌, ◌*◌, ◌-◌, ◌≤◌, zero-le}
+use Prim.Native.Nat.{ℕ, ◌+◌, ◌-◌, zero-le}
 use mathlib.Core.Path.{◌≡◌, refl, ap, ◌∙◌}
 use mathlib.Core.List.{List, ◌++◌}
 use lib.ListN.{get_or, drop, length-drop}
@@ -8,9 +7,8 @@ use native.Mathlib.Omega.{arith}
 use Rattle.basics.specs.Lists.{upto, sum_to}
 use Rattle.basics.specs.Texts.{digits}
 use Rattle.laws.proofs.ListLaws.{sum_more}
-use Rattle.text.specs.Puts.{Puts}
 use Rattle.text.proofs.PutLaws.{◌▹◌, puts_is, puts_none}
-use Rattle.template.specs.Templates.{start_of, turn}
+use Rattle.template.specs.Templates.{turn}
 use Rattle.template.proofs.TemplateLaws.{segment_ends, last_begins, turn_more, turn_last, cut_is, cut_long}
 use Rattle.template.proofs.put_exactly.Goals as goal
 

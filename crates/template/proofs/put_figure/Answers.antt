@@ -1,7 +1,6 @@
 use native.Mathlib.Omega.{arith}
 use Rattle.template.specs.Sizes.{figure_count}
 use Rattle.template.proofs.FigureLaws.{figures_room, figure_size, figure_appends}
-use borrow.Author.Rules.{rules}
 use Rattle.template.proofs.put_figure.Goals as goal
 
 pub bounds-figures-k : goal.bounds-figures-k

@@ -2,7 +2,6 @@ use mathlib.Core.Path.{refl}
 use native.Mathlib.Omega.{arith}
 use lib.ListN.{length-set}
 use Rattle.template.proofs.ChunkLaws.{four_appends}
-use borrow.Author.Rules.{rules}
 use Rattle.template.proofs.put_four.Goals as goal
 
 pub bounds-out-second : goal.bounds-out-second

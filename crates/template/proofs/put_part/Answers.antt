@@ -1,11 +1,6 @@
-use Prim.Native.Nat.{ℕ, ◌+◌, ◌-◌, ◌≤◌}
-use mathlib.Core.Path.{◌≡◌, refl, ◌∙◌}
-use mathlib.Core.List.{List}
+use mathlib.Core.Path.{refl, ◌∙◌}
 use native.Mathlib.Omega.{arith}
-use lib.ListN.{length, take, drop}
-use Rattle.text.specs.Appends.{Appends}
 use Rattle.template.proofs.ChunkLaws.{part_less, part_more}
-use borrow.Author.Rules.{rules}
 use Rattle.template.proofs.put_part.Goals as goal
 
 pub loop-k-init : goal.loop-k-init

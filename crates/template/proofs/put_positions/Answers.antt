@@ -1,12 +1,9 @@
-use Prim.Native.Nat.{◌+◌, ◌*◌, ◌-◌, ◌≤◌, zero-le}
+use Prim.Native.Nat.{zero-le}
 use mathlib.Core.Path.{◌≡◌, ap}
 use native.Mathlib.Omega.{arith}
 use Rattle.basics.specs.Lists.{upto}
 use Rattle.laws.proofs.TextLaws.{upto_more}
-use Rattle.text.specs.Appends.{Appends}
 use Rattle.text.proofs.AppendLaws.{appends_none, appends_is, ◌▸◌}
-use Rattle.template.specs.Templates.{rendered}
-use borrow.Author.Rules.{rules}
 use Rattle.template.proofs.put_positions.Goals as goal
 
 pub loop-p-init : goal.loop-p-init

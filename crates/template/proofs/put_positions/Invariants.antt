@@ -1,12 +1,7 @@
-use Prim.Native.Nat.{◌+◌, ◌*◌, ◌-◌, ◌≤◌, zero-le}
-use mathlib.Core.Path.{◌≡◌, ap}
-use native.Mathlib.Omega.{arith}
+use Prim.Native.Nat.{◌+◌, ◌*◌, ◌-◌, ◌≤◌}
 use Rattle.basics.specs.Lists.{upto}
-use Rattle.laws.proofs.TextLaws.{upto_more}
 use Rattle.text.specs.Appends.{Appends}
-use Rattle.text.proofs.AppendLaws.{appends_none, appends_is, ◌▸◌}
 use Rattle.template.specs.Templates.{rendered}
-use borrow.Author.Rules.{rules}
 use Rattle.template.proofs.put_positions.Given as goal
 
 abbrev pub invariant-loop-p : goal.invariant-loop-p

@@ -1,14 +1,11 @@
-use Prim.Native.Nat.{◌+◌, ◌*◌, ◌-◌, ◌≤◌, zero-le}
+use Prim.Native.Nat.{zero-le}
 use mathlib.Core.Path.{◌≡◌, refl}
 use lib.ListN.{get_or}
 use native.Mathlib.Omega.{arith}
 use Rattle.basics.specs.Lists.{upto, sum_to}
 use Rattle.laws.proofs.ListLaws.{sum_more}
-use Rattle.text.specs.Appends.{Appends}
 use Rattle.text.proofs.AppendLaws.{◌▸◌, appends_is, appends_none}
-use Rattle.template.specs.Templates.{start_of, turn}
 use Rattle.template.proofs.TemplateLaws.{segment_ends, last_begins, turn_more, turn_last}
-use borrow.Author.Rules.{rules}
 use Rattle.template.proofs.put_rendered.Goals as goal
 
 pub loop-j-init : goal.loop-j-init

@@ -1,4 +1,3 @@
-use Prim.Native.Nat.{ℕ, ◌<◌}
 use native.Mathlib.Omega.{arith}
 use Rattle.laws.proofs.TextLaws.{length_one, length_more}
 use Rattle.text.proofs.PutLaws.{number_one, number_more}

@@ -1,4 +1,3 @@
-use borrow.Author.Rules.{rules}
 use mathlib.Core.Path.{refl}
 use Rattle.text.proofs.PutLaws.{puts_counted, puts_sets}
 use Rattle.text.proofs.put.Goals as goal

@@ -1,4 +1,3 @@
-use borrow.Author.Rules.{rules}
 use native.Mathlib.Omega.{arith}
 use Rattle.text.proofs.PutLaws.{◌▹◌}
 use Rattle.text.proofs.put_field.Goals as goal

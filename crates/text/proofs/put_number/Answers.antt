@@ -1,4 +1,3 @@
-use borrow.Author.Rules.{rules}
 use native.Mathlib.Omega.{arith}
 use Rattle.laws.proofs.TextLaws.{digits_le}
 use Rattle.text.proofs.put_number.Goals as goal

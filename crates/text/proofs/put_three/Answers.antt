@@ -1,4 +1,3 @@
-use borrow.Author.Rules.{rules}
 use native.Mathlib.Omega.{arith}
 use Rattle.text.proofs.PutLaws.{number_more}
 use Rattle.text.proofs.put_three.Goals as goal

@@ -1,5 +1,4 @@
 use native.Mathlib.Omega.{arith}
-use borrow.Author.Rules.{rules}
 use Rattle.trail.proofs.TrailLaws.{marks}
 use Rattle.trail.proofs.mark.Goals as goal
 

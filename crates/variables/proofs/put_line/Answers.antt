@@ -1,6 +1,5 @@
 use native.Mathlib.Omega.{arith}
 use Rattle.text.proofs.PutLaws.{◌▹◌}
-use borrow.Author.Rules.{rules}
 use Rattle.variables.proofs.put_line.Goals as goal
 
 pub returns : goal.returns

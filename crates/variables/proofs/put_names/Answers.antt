@@ -1,9 +1,7 @@
-use Prim.Native.Nat.{◌+◌, ◌*◌, ◌-◌, ◌≤◌}
 use mathlib.Core.Path.{◌≡◌, ap}
 use native.Mathlib.Omega.{arith}
 use Rattle.basics.specs.Lists.{upto}
 use Rattle.laws.proofs.TextLaws.{upto_more}
-use Rattle.text.specs.Puts.{Puts}
 use Rattle.text.proofs.PutLaws.{◌▹◌, puts_is, puts_none}
 use Rattle.variables.specs.Variables.{labelled}
 use borrow.Author.Rules.{rules}
@@ -24,12 +22,11 @@ pub loop-k-smaller : goal.loop-k-smaller
 loop-k-smaller c = omega arith
 
 pub loop-k-preserved : goal.loop-k-preserved
-loop-k-preserved c =
-    (
-      omega arith,
-      puts_is (upto_more _ _) (c.loop-k.invariant.1 ▹ c.put_line-next.ensures.puts),
-      omega (arith, c.put_line-next.ensures.upper_bound),
-    )
+loop-k-preserved c = (
+  omega arith,
+  puts_is (upto_more _ _) (c.loop-k.invariant.1 ▹ c.put_line-next.ensures.puts),
+  omega (arith, c.put_line-next.ensures.upper_bound),
+)
 
 pub returns : goal.returns
 returns c =

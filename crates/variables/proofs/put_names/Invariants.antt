@@ -1,12 +1,7 @@
 use Prim.Native.Nat.{◌+◌, ◌*◌, ◌-◌, ◌≤◌}
-use mathlib.Core.Path.{◌≡◌, ap}
-use native.Mathlib.Omega.{arith}
 use Rattle.basics.specs.Lists.{upto}
-use Rattle.laws.proofs.TextLaws.{upto_more}
 use Rattle.text.specs.Puts.{Puts}
-use Rattle.text.proofs.PutLaws.{◌▹◌, puts_is, puts_none}
 use Rattle.variables.specs.Variables.{labelled}
-use borrow.Author.Rules.{rules}
 use Rattle.variables.proofs.put_names.Given as goal
 
 abbrev pub invariant-loop-k : goal.invariant-loop-k

@@ -1,7 +1,6 @@
 use native.Mathlib.Omega.{arith}
 use Rattle.text.proofs.PutLaws.{◌▹◌, puts_is}
 use Rattle.variables.proofs.VariableLaws.{position_lines}
-use borrow.Author.Rules.{rules}
 use Rattle.variables.proofs.put_position_variable.Goals as goal
 
 pub returns : goal.returns

@@ -1,6 +1,5 @@
 use native.Mathlib.Omega.{arith}
 use Rattle.version3.specs.Spelling.{preamble}
-use borrow.Author.Rules.{rules}
 use Rattle.variables.proofs.put_preamble.Goals as goal
 
 pub returns : goal.returns

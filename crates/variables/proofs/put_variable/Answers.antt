@@ -7,7 +7,6 @@ use Rattle.words.specs.Words.{table_of}
 use Rattle.text.proofs.PutLaws.{puts_is}
 use Rattle.variables.specs.Variables.{variable, position_names}
 use Rattle.variables.proofs.VariableLaws.{fact_variable, top_variable, position_variable}
-use borrow.Author.Rules.{rules}
 use Rattle.variables.proofs.put_variable.Goals as goal
 
 pub returns-then-v-facts : goal.returns-then-v-facts
@@ -28,5 +27,8 @@ pub returns : goal.returns
 returns c =
     let a = c.args in
     let t = table_of a.words.now in
-    let l : fact_count t < a.v = omega (arith, c.fact_count-facts.ensures) in record { puts = puts_is (position_variable a.bound t a.v l ∙ ap (λ (n : ℕ). spell_variable (variable a.v (position_names n))) (sym c.task_count.ensures))
-          c.put_position_variable.ensures.puts; upper_bound = c.put_position_variable.ensures.upper_bound }
+    let l : fact_count t < a.v = omega (arith, c.fact_count-facts.ensures) in record {
+      puts = puts_is (position_variable a.bound t a.v l ∙ ap (λ (n : ℕ). spell_variable (variable a.v (position_names n))) (sym c.task_count.ensures))
+          c.put_position_variable.ensures.puts;
+      upper_bound = c.put_position_variable.ensures.upper_bound;
+    }

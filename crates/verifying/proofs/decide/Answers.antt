@@ -5,7 +5,6 @@ use lib.ListN.{length}
 use Rattle.rules.specs.Refusals.{check_plan}
 use Rattle.rules.specs.Programs.{size_in, check_input}
 use Rattle.verifying.proofs.PartLaws.{table_part, plan_part}
-use borrow.Author.Rules.{rules}
 use Rattle.verifying.proofs.decide.Goals as goal
 
 pub returns : goal.returns

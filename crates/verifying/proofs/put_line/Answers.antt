@@ -2,7 +2,6 @@ use mathlib.Core.Path.{sym, ap, ◌∙◌}
 use Rattle.rules.specs.Checks.{verdict_of}
 use Rattle.text.proofs.AppendLaws.{appends_is}
 use Rattle.rules.specs.Programs.{told, accepted_line, check_output}
-use borrow.Author.Rules.{rules}
 use Rattle.verifying.proofs.put_line.Goals as goal
 
 pub returns-in-Accepted : goal.returns-in-Accepted

@@ -7,7 +7,6 @@ use Rattle.rules.specs.Programs.{check_output}
 use Rattle.text.proofs.AppendLaws.{appends_is}
 use Rattle.report.proofs.CutLaws.{check_read}
 use Rattle.report.proofs.PartLaws.{only_sent}
-use borrow.Author.Rules.{rules}
 use Rattle.verifying.proofs.put_part.Goals as goal
 
 pub slice_bounds-put_line-end : goal.slice_bounds-put_line-end

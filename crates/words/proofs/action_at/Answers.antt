@@ -2,7 +2,6 @@ use mathlib.Core.Path.{sym, ◌∙◌}
 use Prim.Native.Nat.{◌+◌, ◌*◌}
 use lib.ListN.{get_or}
 use Rattle.words.proofs.ViewLaws.{action_is}
-use borrow.Author.Rules.{rules}
 use Rattle.words.proofs.action_at.Goals as goal
 
 pub returns : goal.returns

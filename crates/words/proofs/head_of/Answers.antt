@@ -1,7 +1,6 @@
 use mathlib.Core.Path.{sym, ap}
 use Rattle.rules.specs.Tables.{Method}
 use Rattle.words.proofs.ViewLaws.{method_is}
-use borrow.Author.Rules.{rules}
 use Rattle.words.proofs.head_of.Goals as goal
 
 pub returns : goal.returns

@@ -5,7 +5,6 @@ use native.Mathlib.Omega.{arith}
 use lib.ListN.{set, length-set}
 use Rattle.facts.specs.Sets.{set_of, action_read}
 use Rattle.words.proofs.PutLaws.{put_action}
-use borrow.Author.Rules.{rules}
 use Rattle.words.proofs.put_action.Goals as goal
 
 pub shape_of-words : goal.shape_of-words

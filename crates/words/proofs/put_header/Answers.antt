@@ -5,7 +5,6 @@ use lib.ListN.{length, set, length-set}
 use Rattle.facts.specs.Sets.{set_of}
 use Rattle.words.specs.Words.{goal_word}
 use Rattle.words.proofs.PutLaws.{put_header}
-use borrow.Author.Rules.{rules}
 use Rattle.words.proofs.put_header.Goals as goal
 
 pub bounds-words-1 : goal.bounds-words-1

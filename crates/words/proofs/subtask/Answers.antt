@@ -1,7 +1,6 @@
 use mathlib.Core.Path.{sym}
 use native.Mathlib.Omega.{arith}
 use Rattle.words.proofs.ViewLaws.{width_small, subtask_is}
-use borrow.Author.Rules.{rules}
 use Rattle.words.proofs.subtask.Goals as goal
 
 pub overflow_add-result : goal.overflow_add-result

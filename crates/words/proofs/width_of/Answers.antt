@@ -1,6 +1,5 @@
 use mathlib.Core.Path.{sym}
 use Rattle.words.proofs.ViewLaws.{width_is}
-use borrow.Author.Rules.{rules}
 use Rattle.words.proofs.width_of.Goals as goal
 
 pub returns : goal.returns

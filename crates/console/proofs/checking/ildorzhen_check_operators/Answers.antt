@@ -1,5 +1,4 @@
 use mathlib.Core.Path.{ap, ◌∙◌}
-use borrow.Author.Rules.{rules}
 use Rattle.basics.specs.Answers.{value_of}
 use Rattle.rules.specs.Checks.{operators_in}
 use Rattle.console.proofs.checking.ildorzhen_check_operators.Goals as goal

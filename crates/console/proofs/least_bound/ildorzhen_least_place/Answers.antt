@@ -1,5 +1,4 @@
 use mathlib.Core.Path.{ap, ◌∙◌}
-use borrow.Author.Rules.{rules}
 use Rattle.basics.specs.Answers.{place_of}
 use Rattle.console.proofs.least_bound.ildorzhen_least_place.Goals as goal
 

@@ -1,6 +1,5 @@
 use mathlib.Core.Path.{ap, ◌∙◌}
 use lib.ListN.{length}
-use borrow.Author.Rules.{rules}
 use Rattle.basics.specs.Answers.{place_of}
 use Rattle.rules.specs.Refusals.{one_section}
 use Rattle.laws.proofs.AnswerLaws.{mapped_place}

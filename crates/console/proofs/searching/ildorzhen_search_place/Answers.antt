@@ -4,7 +4,6 @@ use Rattle.rules.specs.Refusals.{search_plan}
 use Rattle.basics.specs.Answers.{place_of}
 use lib.ListN.{length}
 use mathlib.Core.Path.{ap, ◌∙◌}
-use borrow.Author.Rules.{rules}
 use Rattle.console.proofs.searching.ildorzhen_search_place.Goals as goal
 
 pub returns : goal.returns

@@ -1,5 +1,4 @@
 use mathlib.Core.Path.{ap, ◌∙◌}
-use borrow.Author.Rules.{rules}
 use Rattle.basics.specs.Answers.{value_of, itself}
 use Rattle.console.proofs.sections.ildorzhen_sections_count.Goals as goal
 

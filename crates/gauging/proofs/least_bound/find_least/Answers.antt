@@ -2,7 +2,6 @@ use mathlib.Core.Path.{sym, ap, ◌∙◌}
 use Rattle.basics.specs.Answers.{answer}
 use Rattle.rules.specs.Refusals.{find_least}
 use Rattle.opening.proofs.OpeningLaws.{goes_on}
-use borrow.Author.Rules.{rules}
 use Rattle.gauging.proofs.least_bound.find_least.Goals as goal
 
 pub least-requires : goal.least-requires

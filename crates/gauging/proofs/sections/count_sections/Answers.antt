@@ -2,7 +2,6 @@ use mathlib.Core.Path.{sym, ap, ◌∙◌}
 use Rattle.basics.specs.Answers.{answer}
 use Rattle.rules.specs.Refusals.{count_sections}
 use Rattle.opening.proofs.OpeningLaws.{goes_on}
-use borrow.Author.Rules.{rules}
 use Rattle.gauging.proofs.sections.count_sections.Goals as goal
 
 pub section_count-requires : goal.section_count-requires

@@ -4,7 +4,6 @@ use Rattle.basics.specs.Answers.{Answer, after}
 use Rattle.rules.specs.Checks.{Tally}
 use Rattle.rules.specs.Refusals.{room_of}
 use Rattle.theorems.proofs.Expansion.{expansion_measured}
-use borrow.Author.Rules.{rules}
 use Rattle.judging.proofs.expanding.measure.Goals as goal
 
 pub returns : goal.returns

@@ -1,7 +1,6 @@
 use mathlib.Core.Path.{subst}
 use native.Mathlib.Omega.{arith}
 use Rattle.run.specs.Runs.{Few}
-use borrow.Author.Rules.{rules}
 use Rattle.judging.proofs.expanding.reply_for.Goals as goal
 
 pub overflow_mul-count : goal.overflow_mul-count

@@ -1,6 +1,5 @@
 use mathlib.Core.Path.{sym, ◌∙◌}
 use Rattle.rows.proofs.StackLaws.{stack_height}
-use borrow.Author.Rules.{rules}
 use Rattle.rows.proofs.row.left.Goals as goal
 
 pub returns : goal.returns

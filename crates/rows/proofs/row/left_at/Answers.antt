@@ -3,7 +3,6 @@ use Prim.Native.Nat.{◌+◌, ◌*◌}
 use lib.ListN.{get_or}
 use Rattle.rows.specs.Sizes.{row_cells, left_cell}
 use Rattle.rows.proofs.StackLaws.{stack_cell}
-use borrow.Author.Rules.{rules}
 use Rattle.rows.proofs.row.left_at.Goals as goal
 
 pub returns : goal.returns

@@ -1,12 +1,10 @@
 use mathlib.Core.Path.{subst}
-use Prim.Native.Nat.{ℕ, ◌+◌, ◌-◌, ◌*◌, ◌≤◌, ◌<◌}
+use Prim.Native.Nat.{ℕ, ◌+◌, ◌*◌, ◌<◌}
 use native.Mathlib.Omega.{arith}
 use lib.ListN.{length, set, drop}
 use lib.Seq.{get_or-drop}
-use Rattle.rules.specs.Limits.{most_subtasks}
 use Rattle.rows.specs.Sizes.{row_cells}
 use Rattle.rows.proofs.PushLaws.{Pushing, pushed_none, pushed_more, pushed_all}
-use borrow.Author.Rules.{rules}
 use Rattle.rows.proofs.row.push.Goals as goal
 
 pub loop-h-init : goal.loop-h-init
