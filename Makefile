@@ -1,5 +1,5 @@
 # C programs over the proved archive, built and run with the toolchain alone: its compiler, its linker, its C library and,
-# where the machine is not x86-64, its emulator.
+# where the machine is not x86-64, its emulator, if it has one.
 KIT := $(patsubst %/START-HERE.md,%,$(shell rt doc))
 TOOL := $(KIT)/toolchain
 LIB := $(TOOL)/lib
@@ -35,13 +35,13 @@ march: header $(OUT)/march $(OUT)/example
 	@cat $(OUT)/example.out
 	@diff c/example.out $(OUT)/example.out && echo 'example: as in c/example.out'
 
-## test      the gate: every crate proved from nothing, every must-fail edit refused, every program run
+## test      the gate: every crate proved, every must-fail edit refused, every program run
 test:
 	.ci/run
 
 ## archive   target/libildorzhen.a, for C to link, from the proved source; that it needs memcpy and memset alone is tried
 archive:
-	cd crates/console_c && rt lib
+	cd crates/console_c && rt lib --cpu x86-64
 	mkdir -p $(OUT)
 	cp crates/console_c/out/libconsole_c.a $(ARCHIVE)
 	@test "$$($(TOOL)/bin/llvm-ar t $(ARCHIVE) | wc -l)" -eq 1
@@ -64,7 +64,7 @@ bench: $(addprefix $(OUT)/,bench-ours bench-plain bench-searches plain-emit plai
 ## programs  target/bin/verify, target/bin/emit and target/bin/find, proved and run on their stored input
 programs:
 	mkdir -p target/bin
-	for name in verify emit find; do (cd crates/$$name && rt run < stdin | cmp - stdout) && cp crates/$$name/out/$$name target/bin || exit 1; done
+	for name in verify emit find; do (cd crates/$$name && rt run --cpu x86-64 < stdin | cmp - stdout) && cp crates/$$name/out/$$name target/bin || exit 1; done
 
 ## help      this list
 help:

@@ -1,4 +1,4 @@
-// The exported calls, by name, each on a record of the examples.
+// The calls for C, by name, each on a record of the examples.
 #![tactic(auto)]
 
 ghost use Rattle.std.specs.Prelude.{◌≤◌, length};

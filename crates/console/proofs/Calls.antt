@@ -22,7 +22,7 @@ use Rattle.console.proofs.one_section.ildorzhen_section_place.Reads as section_p
 use Rattle.console.proofs.one_section.ildorzhen_section_length.Reads as section_length
 use Rattle.console.proofs.least_bound.ildorzhen_least_number.Reads as least_number
 use Rattle.console.proofs.least_bound.ildorzhen_least_place.Reads as least_place
-use Rattle.console.proofs.least_bound.ildorzhen_least_bound.Reads as least_bound_lem
+use Rattle.console.proofs.least_bound.ildorzhen_least_bound.Reads as the_least_bound
 use Rattle.console.proofs.checking.ildorzhen_check_number.Reads as check_number
 use Rattle.console.proofs.checking.ildorzhen_check_place.Reads as check_place
 use Rattle.console.proofs.checking.ildorzhen_check_cost.Reads as check_cost
@@ -31,7 +31,7 @@ use Rattle.console.proofs.checking.ildorzhen_check_steps.Reads as check_steps
 use Rattle.console.proofs.expanding.ildorzhen_expand_number.Reads as expand_number
 use Rattle.console.proofs.expanding.ildorzhen_expand_place.Reads as expand_place
 use Rattle.console.proofs.expanding.ildorzhen_expand_length.Reads as expand_length
-use Rattle.console.proofs.searching.ildorzhen_search_number.Reads as search_number_lem
+use Rattle.console.proofs.searching.ildorzhen_search_number.Reads as the_search_number
 use Rattle.console.proofs.searching.ildorzhen_search_place.Reads as search_place
 use Rattle.console.proofs.searching.ildorzhen_search_applied.Reads as search_applied
 use Rattle.console.proofs.searching.ildorzhen_search_length.Reads as search_length
@@ -60,7 +60,7 @@ section_calls κs a n p m s1 s2 s3 h1 h2 h3 =
 pub least_calls : (κs : _) (a : _) (n p m : _) (s1 s2 s3 : _)
     → least_number.Post κs a n s1
     → least_place.Post κs a p s2
-    → least_bound_lem.Post κs a m s3
+    → the_least_bound.Post κs a m s3
     → LeastCalls a.0 a.1.0.now n p m
 least_calls κs a n p m s1 s2 s3 h1 h2 h3 =
     transport (λ i. LeastCalls a.0 a.1.0.now (sym h1 i) (sym h2 i) (sym h3 i)) (least_says a.0 a.1.0.now)
@@ -70,8 +70,8 @@ same_least = ap₂ (λ (f : ℕ) (s : List ℕ). value_of itself (find_least f s
 
 -- The least bounds of both forms on one table.
 pub least_compared : (κs κs' : _) (a a' : _) (m m' : _) (s s' : _)
-    → least_bound_lem.Post κs a m s
-    → least_bound_lem.Post κs' a' m' s'
+    → the_least_bound.Post κs a m s
+    → the_least_bound.Post κs' a' m' s'
     → a.0 ≡ 0
     → a'.0 ≡ 1
     → a.1.0.now ≡ a'.1.0.now
@@ -104,7 +104,7 @@ expand_calls κs a n p m s1 s2 s3 h1 h2 h3 =
 
 -- The named form: the search's count is the number of applicable lists up to the plan found.
 pub search_calls : (κs : _) (a : _) (n p c m : _) (s1 s2 s3 s4 : _)
-    → search_number_lem.Post κs a n s1
+    → the_search_number.Post κs a n s1
     → search_place.Post κs a p s2
     → search_applied.Post κs a c s3
     → search_length.Post κs a m s4
@@ -116,7 +116,7 @@ search_calls κs a n p c m s1 s2 s3 s4 h1 h2 h3 h4 =
 
 -- Where a plan is accepted, or found, the least bound of its form is there, and no greater than its bound.
 pub check_reached : (κs κs' : _) (a c : _) (m n : _) (s u : _)
-    → least_bound_lem.Post κs a m s
+    → the_least_bound.Post κs a m s
     → check_number.Post κs' c n u
     → a.0 ≡ c.1.0
     → a.1.0.now ≡ c.1.1.0.now
@@ -126,8 +126,8 @@ check_reached κs κs' a c m n s u h k form table zero =
     subst (Reaches c.0) (sym (h ∙ same_least form table)) (check_reaches _ _ _ _ (sym k ∙ zero))
 
 pub search_reached : (κs κs' : _) (a c : _) (m n : _) (s u : _)
-    → least_bound_lem.Post κs a m s
-    → search_number_lem.Post κs' c n u
+    → the_least_bound.Post κs a m s
+    → the_search_number.Post κs' c n u
     → a.0 ≡ c.1.0
     → a.1.0.now ≡ c.1.1.1.1.0.now
     → (n ≡ 0) ⊎ (n ≡ no_room)

@@ -11,7 +11,7 @@ use Rattle.console.proofs.one_section.ildorzhen_section_length.Reads as section_
 use Rattle.console.proofs.one_section.ildorzhen_section_write.Reads as section_write
 use Rattle.console.proofs.least_bound.ildorzhen_least_number.Reads as least_number
 use Rattle.console.proofs.least_bound.ildorzhen_least_place.Reads as least_place
-use Rattle.console.proofs.least_bound.ildorzhen_least_bound.Reads as least_bound_lem
+use Rattle.console.proofs.least_bound.ildorzhen_least_bound.Reads as the_least_bound
 use Rattle.console.proofs.checking.ildorzhen_check_number.Reads as check_number
 use Rattle.console.proofs.checking.ildorzhen_check_place.Reads as check_place
 use Rattle.console.proofs.checking.ildorzhen_check_cost.Reads as check_cost
@@ -21,7 +21,7 @@ use Rattle.console.proofs.expanding.ildorzhen_expand_number.Reads as expand_numb
 use Rattle.console.proofs.expanding.ildorzhen_expand_place.Reads as expand_place
 use Rattle.console.proofs.expanding.ildorzhen_expand_length.Reads as expand_length
 use Rattle.console.proofs.expanding.ildorzhen_expand_write.Reads as expand_write
-use Rattle.console.proofs.searching.ildorzhen_search_number.Reads as search_number_lem
+use Rattle.console.proofs.searching.ildorzhen_search_number.Reads as the_search_number
 use Rattle.console.proofs.searching.ildorzhen_search_place.Reads as search_place
 use Rattle.console.proofs.searching.ildorzhen_search_applied.Reads as search_applied
 use Rattle.console.proofs.searching.ildorzhen_search_length.Reads as search_length
@@ -66,7 +66,7 @@ least_number_one κs a r q s u h k = h ∙ sym k
 pub least_place_one : OneOutcome least_place.Post
 least_place_one κs a r q s u h k = h ∙ sym k
 
-pub least_bound_one : OneOutcome least_bound_lem.Post
+pub least_bound_one : OneOutcome the_least_bound.Post
 least_bound_one κs a r q s u h k = h ∙ sym k
 
 pub check_number_one : OneOutcome check_number.Post
@@ -99,7 +99,7 @@ expand_write_one κs a r q s u h k = h.0 ∙ sym k.0
 pub expand_write_bytes_one : OneText (λ κs s. s.1.1.1.1.0.now) expand_write.Post
 expand_write_bytes_one κs a r q s u h k = h.1 ∙ sym k.1
 
-pub search_number_one : OneOutcome search_number_lem.Post
+pub search_number_one : OneOutcome the_search_number.Post
 search_number_one κs a r q s u h k = h ∙ sym k
 
 pub search_place_one : OneOutcome search_place.Post

@@ -8,7 +8,7 @@ use Rattle.console.proofs.one_section.ildorzhen_section_length.Reads as section_
 use Rattle.console.proofs.one_section.ildorzhen_section_write.Reads as section_write
 use Rattle.console.proofs.least_bound.ildorzhen_least_number.Reads as least_number
 use Rattle.console.proofs.least_bound.ildorzhen_least_place.Reads as least_place
-use Rattle.console.proofs.least_bound.ildorzhen_least_bound.Reads as least_bound_lem
+use Rattle.console.proofs.least_bound.ildorzhen_least_bound.Reads as the_least_bound
 use Rattle.console.proofs.checking.ildorzhen_check_number.Reads as check_number
 use Rattle.console.proofs.checking.ildorzhen_check_place.Reads as check_place
 use Rattle.console.proofs.checking.ildorzhen_check_cost.Reads as check_cost
@@ -18,7 +18,7 @@ use Rattle.console.proofs.expanding.ildorzhen_expand_number.Reads as expand_numb
 use Rattle.console.proofs.expanding.ildorzhen_expand_place.Reads as expand_place
 use Rattle.console.proofs.expanding.ildorzhen_expand_length.Reads as expand_length
 use Rattle.console.proofs.expanding.ildorzhen_expand_write.Reads as expand_write
-use Rattle.console.proofs.searching.ildorzhen_search_number.Reads as search_number_lem
+use Rattle.console.proofs.searching.ildorzhen_search_number.Reads as the_search_number
 use Rattle.console.proofs.searching.ildorzhen_search_place.Reads as search_place
 use Rattle.console.proofs.searching.ildorzhen_search_applied.Reads as search_applied
 use Rattle.console.proofs.searching.ildorzhen_search_length.Reads as search_length
@@ -55,7 +55,7 @@ least_number_asks κs a = tt
 pub least_place_asks : AsksNothing least_place.Asked
 least_place_asks κs a = tt
 
-pub least_bound_asks : AsksNothing least_bound_lem.Asked
+pub least_bound_asks : AsksNothing the_least_bound.Asked
 least_bound_asks κs a = tt
 
 pub check_number_asks : AsksNothing check_number.Asked
@@ -85,7 +85,7 @@ expand_length_asks κs a = tt
 pub expand_write_asks : AsksNothing expand_write.Asked
 expand_write_asks κs a = tt
 
-pub search_number_asks : AsksNothing search_number_lem.Asked
+pub search_number_asks : AsksNothing the_search_number.Asked
 search_number_asks κs a = tt
 
 pub search_place_asks : AsksNothing search_place.Asked

@@ -1,7 +1,7 @@
 // What the programs share: the bytes of their input, the line that they write, from the start of the caller's text, and sending it.
 #![tactic(auto)]
 
-ghost use Rattle.std.specs.Prelude.{◌≡◌, ◌∷◌, ◌+◌, ◌*◌, ◌≤◌, min, length, get_or, IfOk, OnErr};
+ghost use Rattle.std.specs.Prelude.{◌≡◌, ◌∷◌, ◌+◌, ◌*◌, ◌≤◌, min, length, get_or, IfOk, IfSome, OnErr};
 ghost use Rattle.basics.specs.Texts.{digits};
 ghost use Rattle.rules.specs.Programs.{accepted_line, refused_line};
 ghost use Rattle.text.specs.Appends.{Appends};
@@ -28,9 +28,10 @@ pub struct Part {
     size: usize,
 }
 
-// What a reader gives, as much as the buffer holds. Where a read fails the buffer keeps its length.
+// What a reader gives, as much as the buffer holds: the start of its bytes, where they are known. Where a read fails the buffer keeps its length.
 pub fn read<R: Read>(reader: &mut R, buffer: &mut [u8]) -> io::Result<Input>
     ensures ok { IfOk result (λ input. count_of input ≤ length buffer.new) }
+    ensures read_from { IfOk result (λ input. IfSome (R.remaining reader.old) (λ bytes. ReadFrom bytes buffer.new input)) }
     ensures err { OnErr result (length buffer.new ≡ length buffer.old) }
 {
     let mut count = 0;
