@@ -16,7 +16,8 @@ pub fn conclude(words: &[u64], t: Progress, lines: u64) -> Verdict
     ensures few { Few result }
     ensures by_index { (cells : List ℕ) → verdict_of result ≡ finish (table_of words.now) (check_at lines (point_of t cells)) }
 {
-    if t.height != 0 {
+    let left = t.height != 0;
+    if left {
         return Verdict::Refused(reasons::STACK_NOT_EMPTY, lines);
     }
     let facts = t.facts;

@@ -51,7 +51,8 @@ fn small(s: &[u8], at: usize) -> Digits
     if !is_digit(b) {
         return Digits::Got(a - 48, at + 1);
     }
-    if a == 48 {
+    let zero = a == 48;
+    if zero {
         return Digits::No;
     }
     let v = (a - 48) * 10 + (b - 48);

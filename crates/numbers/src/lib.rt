@@ -142,7 +142,8 @@ fn number(s: &[u8], at: usize) -> Num
         if next < n {
             let b = wide(s[next]);
             if b < 128 {
-                if b == 0 {
+                let zero = b == 0;
+                if zero {
                     return Num::Bad(BAD_NUMBER, at);
                 }
                 return Num::Got(a % 128 + b * 128, next + 1);

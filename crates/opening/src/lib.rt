@@ -47,7 +47,8 @@ pub fn open_formed(form: u64, early: u64, table: &[u8], late: u64, words: &mut [
     if 1 < form {
         return Opening::Refused(BAD_FORM, 0);
     }
-    if early != 0 {
+    let told = early != 0;
+    if told {
         return Opening::Refused(early, 0);
     }
     open_table(table, late, words)

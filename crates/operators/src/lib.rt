@@ -71,7 +71,8 @@ pub fn operator_count(words: &[u64], bound: u64, form: u64) -> u64
     ensures { result ≡ length (operators_of bound form (table_of words.now)) }
 {
     let methods = words::method_count(words);
-    let mut count = words::action_count(words) * bound;
+    let each = bound;
+    let mut count = words::action_count(words) * each;
     let mut k: usize = 0;
     while k < methods {
         count += method_positions(words, bound, form, k);

@@ -21,7 +21,8 @@ pub fn plan_number(plan: &[u8]) -> u64
 pub fn limits_number(limit: u64, budget: u64) -> u64
     ensures { result ≡ search_number limit budget }
 {
-    if limit < 1 {
+    let low = limit < 1;
+    if low {
         return BAD_LIMITS;
     }
     if MOST_LIMIT < limit {

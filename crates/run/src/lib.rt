@@ -89,7 +89,8 @@ pub fn turn(
     let below = height - 1;
     let top = row::wide(stack[below]);
     let task = row::task(ops, cells, index);
-    if top != task {
+    let other = top != task;
+    if other {
         return refuse(reasons::NOT_APPLICABLE, t);
     }
     let needs = row::needs(ops, cells, index);

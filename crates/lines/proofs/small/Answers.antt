@@ -19,8 +19,8 @@ overflow_sub-result c = omega (arith, digit_range c.wide-a.result (sym c.is_digi
 pub returns-then-not-is_digit-2 : goal.returns-then-not-is_digit-2
 returns-then-not-is_digit-2 c = small_one _ _ _ c.wide-a.ensures (sym c.is_digit.ensures ∙ c.if-not-is_digit.false) _ c.wide-b.ensures (sym c.is_digit-2.ensures ∙ c.if-not-is_digit-2.true)
 
-pub returns-then-a-eq48 : goal.returns-then-a-eq48
-returns-then-a-eq48 c = small_zero _ _ _ c.wide-a.ensures (sym c.is_digit.ensures ∙ c.if-not-is_digit.false) _ c.wide-b.ensures (sym c.is_digit-2.ensures ∙ c.if-not-is_digit-2.false) c.if-a-eq48.true
+pub returns-then-zero : goal.returns-then-zero
+returns-then-zero c = small_zero _ _ _ c.wide-a.ensures (sym c.is_digit.ensures ∙ c.if-not-is_digit.false) _ c.wide-b.ensures (sym c.is_digit-2.ensures ∙ c.if-not-is_digit-2.false) c.if-zero.true
 
 pub overflow_sub-v : goal.overflow_sub-v
 overflow_sub-v c = omega (arith, digit_range c.wide-a.result (sym c.is_digit.ensures ∙ c.if-not-is_digit.false), digit_range c.wide-b.result (sym c.is_digit-2.ensures ∙ c.if-not-is_digit-2.false))
@@ -39,7 +39,7 @@ bounds-s-at-3 c = let first = fed_digit c.requires c.wide-a.ensures (sym c.is_di
     fed_inside (fed_digit first c.wide-b.ensures (sym c.is_digit-2.ensures ∙ c.if-not-is_digit-2.false) _ (omega arith))
 
 pub returns-then-not-is_digit-3 : goal.returns-then-not-is_digit-3
-returns-then-not-is_digit-3 c = small_two _ _ _ c.wide-a.ensures (sym c.is_digit.ensures ∙ c.if-not-is_digit.false) _ c.wide-b.ensures (sym c.is_digit-2.ensures ∙ c.if-not-is_digit-2.false) c.if-a-eq48.false _ c.wide-c.ensures (sym c.is_digit-3.ensures ∙ c.if-not-is_digit-3.true)
+returns-then-not-is_digit-3 c = small_two _ _ _ c.wide-a.ensures (sym c.is_digit.ensures ∙ c.if-not-is_digit.false) _ c.wide-b.ensures (sym c.is_digit-2.ensures ∙ c.if-not-is_digit-2.false) c.if-zero.false _ c.wide-c.ensures (sym c.is_digit-3.ensures ∙ c.if-not-is_digit-3.true)
 
 pub overflow_mul-result : goal.overflow_mul-result
 overflow_mul-result c = omega (arith, digit_range c.wide-a.result (sym c.is_digit.ensures ∙ c.if-not-is_digit.false), digit_range c.wide-b.result (sym c.is_digit-2.ensures ∙ c.if-not-is_digit-2.false), digit_range c.wide-c.result (sym c.is_digit-3.ensures ∙ c.if-not-is_digit-3.false))
@@ -51,4 +51,4 @@ pub overflow_add-result-2 : goal.overflow_add-result-2
 overflow_add-result-2 c = omega (arith, digit_range c.wide-a.result (sym c.is_digit.ensures ∙ c.if-not-is_digit.false), digit_range c.wide-b.result (sym c.is_digit-2.ensures ∙ c.if-not-is_digit-2.false), digit_range c.wide-c.result (sym c.is_digit-3.ensures ∙ c.if-not-is_digit-3.false))
 
 pub returns : goal.returns
-returns c = small_three _ _ _ c.wide-a.ensures (sym c.is_digit.ensures ∙ c.if-not-is_digit.false) _ c.wide-b.ensures (sym c.is_digit-2.ensures ∙ c.if-not-is_digit-2.false) c.if-a-eq48.false _ c.wide-c.ensures (sym c.is_digit-3.ensures ∙ c.if-not-is_digit-3.false)
+returns c = small_three _ _ _ c.wide-a.ensures (sym c.is_digit.ensures ∙ c.if-not-is_digit.false) _ c.wide-b.ensures (sym c.is_digit-2.ensures ∙ c.if-not-is_digit-2.false) c.if-zero.false _ c.wide-c.ensures (sym c.is_digit-3.ensures ∙ c.if-not-is_digit-3.false)

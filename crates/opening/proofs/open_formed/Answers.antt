@@ -6,16 +6,16 @@ use Rattle.opening.proofs.open_formed.Goals as goal
 pub returns-then-form-gt1 : goal.returns-then-form-gt1
 returns-then-form-gt1 c = let a = c.args in opening_refused _ (form_bad a.early a.late a.form a.table.now c.if-form-gt1.true)
 
-pub returns-then-early-ne0 : goal.returns-then-early-ne0
-returns-then-early-ne0 c =
+pub returns-then-told : goal.returns-then-told
+returns-then-told c =
     let a = c.args in
-    opening_refused _ (early_refused a.early a.late a.form a.table.now c.if-form-gt1.false c.if-early-ne0.true)
+    opening_refused _ (early_refused a.early a.late a.form a.table.now c.if-form-gt1.false c.if-told.true)
 
 pub returns : goal.returns
 returns c =
     let a = c.args in
     let form = c.if-form-gt1.false in
-    let first = c.if-early-ne0.false in
+    let first = c.if-told.false in
     let done = c.open_table.ensures in
     record {
       answers = done.answers ∙ sym (form_is a.early a.late a.form a.table.now form first);

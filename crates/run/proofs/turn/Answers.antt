@@ -24,12 +24,12 @@ returns-then-pos-height c =
     let row = row_at a.ops.now a.cells.now a.index in
     let g : a.pos ≤ row.last = omega (arith, c.last-last.ensures, c.if-last-pos.false) in let r = refusing a.stack.now c.refuse-then-pos-height.ensures (row_other_height row a.pos a.t a.stack.now c.if-pos-lt1.false g c.if-pos-height.true) c.requires.stack_len in record { stack_after = r.0; stack_len_2 = r.1 }
 
-pub returns-then-top-task : goal.returns-then-top-task
-returns-then-top-task c =
+pub returns-then-other : goal.returns-then-other
+returns-then-other c =
     let a = c.args in
     let row = row_at a.ops.now a.cells.now a.index in
-    let g : a.pos ≤ row.last = omega (arith, c.last-last.ensures, c.if-last-pos.false) in let r = refusing a.stack.now c.refuse-then-top-task.ensures
-    (row_other_task row a.pos a.t a.stack.now c.if-pos-lt1.false g c.if-pos-height.false (λ e. c.if-top-task.true (c.wide-top.ensures ∙ e ∙ sym c.task-task.ensures)))
+    let g : a.pos ≤ row.last = omega (arith, c.last-last.ensures, c.if-last-pos.false) in let r = refusing a.stack.now c.refuse-then-other.ensures
+    (row_other_task row a.pos a.t a.stack.now c.if-pos-lt1.false g c.if-pos-height.false (λ e. c.if-other.true (c.wide-top.ensures ∙ e ∙ sym c.task-task.ensures)))
     c.requires.stack_len in record { stack_after = r.0; stack_len_2 = r.1 }
 
 pub returns-then-not-holds : goal.returns-then-not-holds
@@ -37,7 +37,7 @@ returns-then-not-holds c =
     let a = c.args in
     let row = row_at a.ops.now a.cells.now a.index in
     let g : a.pos ≤ row.last = omega (arith, c.last-last.ensures, c.if-last-pos.false) in
-    let top = sym c.wide-top.ensures ∙ c.if-top-task.false ∙ c.task-task.ensures in
+    let top = sym c.wide-top.ensures ∙ c.if-other.false ∙ c.task-task.ensures in
     let h = c.holds.ensures ∙ ap (λ (n : ℕ). holds n (set_of a.t.facts)) c.needs-needs.ensures in let r = refusing a.stack.now c.refuse-then-not-holds.ensures
     (row_needs row a.pos a.t a.stack.now c.if-pos-lt1.false g c.if-pos-height.false top (sym h ∙ c.if-not-holds.true))
     c.requires.stack_len in record { stack_after = r.0; stack_len_2 = r.1 }
@@ -48,7 +48,7 @@ returns c =
     let row = row_at a.ops.now a.cells.now a.index in
     let g : a.pos ≤ row.last = omega (arith, c.last-last.ensures, c.if-last-pos.false) in
     let q : a.pos ≡ a.t.height = c.if-pos-height.false in
-    let top = sym c.wide-top.ensures ∙ c.if-top-task.false ∙ c.task-task.ensures in
+    let top = sym c.wide-top.ensures ∙ c.if-other.false ∙ c.task-task.ensures in
     let h = c.holds.ensures ∙ ap (λ (n : ℕ). holds n (set_of a.t.facts)) c.needs-needs.ensures in
     let push = c.push.ensures in
     let ok = c.requires.row_ok in record {
