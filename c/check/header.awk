@@ -5,7 +5,8 @@
 FILENAME ~ /\.h$/ && /\\$/ { tell("cannot read a line that goes on in the next: '" $0 "'") }
 FILENAME ~ /\.h$/ { header = header $0 "\n"; next }
 { sub(/\/\/.*/, "") }
-FILENAME ~ /\/(reasons|limits)\.rt$/ { read_constant($0); next }
+FILENAME ~ /\/reasons\.rt$/ { read_reason($0); next }
+FILENAME ~ /\/limits\.rt$/ { read_constant($0); next }
 { source = source " " $0 }
 
 END {
@@ -96,6 +97,29 @@ function read_constant(line,   parts) {
     split(line, parts, /[ :;]+/)
     gsub(/_/, "", parts[6])
     keep_constant("source", parts[3], parts[6])
+}
+
+# A line of the enum of reasons: its name in C is in capitals, a line below before each that is not the first.
+function read_reason(line,   parts) {
+    if (line ~ /^pub enum Reason \{$/) {
+        among = 1
+    } else if (line ~ /^}$/) {
+        among = 0
+    } else if (among) {
+        line = squeeze(line)
+        if (line !~ /^[A-Z][A-Za-z]* = [0-9]+,$/)
+            return tell("cannot read the source's reason '" line "'")
+        split(line, parts, /[ =,]+/)
+        keep_constant("source", capitals(parts[1]), parts[2])
+    }
+}
+
+function capitals(name,   k, letter, out) {
+    for (k = 1; k <= length(name); k++) {
+        letter = substr(name, k, 1)
+        out = out (k > 1 && letter ~ /[A-Z]/ ? "_" : "") toupper(letter)
+    }
+    return out
 }
 
 # ---- The header ----

@@ -1,7 +1,6 @@
 -- What an entry answers, and the paper's numbers for each case ("Refusal numbers").
-use Rattle.std.specs.Prelude.{ℕ, Bool, cond, List, length}
-use Rattle.basics.specs.declared.Reply.{Reply}
-use Rattle.basics.specs.declared.Reply.TheVariants.{Value, Refused}
+use Rattle.std.specs.Prelude.{ℕ, Bool, cond, List, length, Result, Ok, Err}
+use Rattle.basics.specs.declared.Refusal.{Refusal}
 
 -- A result, or a refusal's number and place.
 pub data Answer (A : Type 0) : Type 0 where
@@ -43,7 +42,11 @@ mapped f (refusal number place) = refusal number place
 abbrev pub length_of : Answer (List ℕ) → Answer ℕ
 length_of x = mapped length x
 
--- What the code's reply says.
-abbrev pub reply_of : Reply → Answer ℕ
-reply_of (Value v) = answer v
-reply_of (Refused number place) = refusal number place
+-- What the code's answer says: its result as the document has it, or the refusal.
+abbrev pub answer_of : {A B : Type 0} → (A → B) → Result A Refusal → Answer B
+answer_of f (Ok a) = answer (f a)
+answer_of f (Err e) = refusal e.number e.place
+
+-- Where the result is one number.
+abbrev pub reply_of : Result ℕ Refusal → Answer ℕ
+reply_of r = answer_of itself r

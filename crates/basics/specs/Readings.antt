@@ -1,5 +1,6 @@
 -- Reading at a place of a row of bytes: a value and the place after it, or a refusal's number and place.
-use Rattle.std.specs.Prelude.{ℕ, zero, suc, List, [], ◌∷◌, ◌++◌}
+use Rattle.std.specs.Prelude.{ℕ, zero, suc, List, [], ◌∷◌, ◌++◌, Result, Ok, Err}
+use Rattle.basics.specs.declared.Refusal.{Refusal}
 
 pub data Reading (A : Type 0) : Type 0 where
   got : A → ℕ → Reading A
@@ -22,3 +23,13 @@ give a at = got a at
 unfoldable pub many : {A : Type 0} → (ℕ → Reading A) → ℕ → ℕ → Reading (List A)
 many p zero at = got [] at
 many p (suc n) at = then (many p n at) (λ xs at. then (p at) (λ x at. got (xs ++ (x ∷ [])) at))
+
+-- What the code's reader says: a value as the document has it, and the place after it; or the refusal.
+abbrev pub reading_of : {A B : Type 0} → (A → B) → Result (A × ℕ) Refusal → Reading B
+reading_of f (Ok r) = got (f r.0) r.1
+reading_of f (Err e) = bad e.number e.place
+
+-- Where the value was left elsewhere, and only the place after it is handed back.
+abbrev pub onward_of : {A : Type 0} → Result ℕ Refusal → A → Reading A
+onward_of (Ok at) a = got a at
+onward_of (Err e) a = bad e.number e.place

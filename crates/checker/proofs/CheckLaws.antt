@@ -7,24 +7,28 @@ use native.Mathlib.Numerals.{add-one}
 use native.Mathlib.Omega.{arith}
 use borrow.Author.Tests.{eq-eqb, ne_eqb}
 use lib.ListN.{length, drop}
+use Rattle.std.specs.Prelude.{None, Ok, Err}
 use Rattle.basics.specs.Answers.{refusal}
 use Rattle.rules.specs.Reasons.{line_shape, not_emitted, not_applicable}
+use Rattle.rules.specs.ReasonNumbers.{number}
+use Rattle.rules.specs.declared.Operator.{Operator as OperatorInCode}
+use Rattle.rules.specs.declared.reasons.Reason.{Reason}
+use Rattle.rules.specs.declared.reasons.Reason.TheVariants.{BadBound, BadForm, TableTooLong, PlanTooLong, TableEnds, BadNumber, OutOfRange, NotThere, BytesAfterTable, NoSuchSection, LineShape, NotEmitted, NotApplicable, StackNotEmpty, GoalMissing, NoRoom, BadLimits, NoPlan, OverBudget}
 use Rattle.rules.specs.Tables.{Table}
 use Rattle.rules.specs.Progression.{after_all, total_cost}
 use Rattle.rules.specs.Operators.{Operator, expand, emitted, applies}
 use Rattle.rules.specs.Plans.{Line, note, oper, other, lines_of}
 use Rattle.rules.specs.Checks.{finish, check_from, check_lines}
-use Rattle.laws.specs.Steps.{kind_operator}
+use Rattle.laws.specs.Steps.{operator_of}
 use Rattle.lines.specs.Places.{shortest_line}
 use Rattle.line_ends.specs.Ends.{Whole}
 use Rattle.lines.specs.Lines.{OperatorLine, CommentLine, IsLine}
-use Rattle.lines.specs.declared.Line.TheVariants.{Shape}
 use Rattle.lines.proofs.PlaceLaws.{left_over, no_line}
 use Rattle.rows.specs.Sizes.{stack_cells}
 use Rattle.run.specs.Steps.{Point, Moved, start_point, state_of, check_at, refused, reached, document_step}
-use Rattle.run.specs.Runs.{ProgressOk, point_of, turned_of}
+use Rattle.run.specs.Runs.{ProgressOk, point_of, applied_of}
 use Rattle.run.specs.declared.Progress.{Progress}
-use Rattle.run.specs.declared.Turned.{Turned}
+use Rattle.run.specs.declared.Applied.{Applied}
 use Rattle.run.proofs.StepLaws.{check_step}
 
 -- What a line of each kind does.
@@ -85,9 +89,31 @@ counted b f t o p = go (emitted b f t o) (applies f t (state_of p) o)
     go true false z = absurd (omega arith)
     go false y z = absurd (omega arith)
 
+-- No reason has the number 0, which tells that there is none.
+reason_told : (r : Reason) → number r ≡ 0 → ⊥
+reason_told BadBound z = absurd (omega arith)
+reason_told BadForm z = absurd (omega arith)
+reason_told TableTooLong z = absurd (omega arith)
+reason_told PlanTooLong z = absurd (omega arith)
+reason_told TableEnds z = absurd (omega arith)
+reason_told BadNumber z = absurd (omega arith)
+reason_told OutOfRange z = absurd (omega arith)
+reason_told NotThere z = absurd (omega arith)
+reason_told BytesAfterTable z = absurd (omega arith)
+reason_told NoSuchSection z = absurd (omega arith)
+reason_told LineShape z = absurd (omega arith)
+reason_told NotEmitted z = absurd (omega arith)
+reason_told NotApplicable z = absurd (omega arith)
+reason_told StackNotEmpty z = absurd (omega arith)
+reason_told GoalMissing z = absurd (omega arith)
+reason_told NoRoom z = absurd (omega arith)
+reason_told BadLimits z = absurd (omega arith)
+reason_told NoPlan z = absurd (omega arith)
+reason_told OverBudget z = absurd (omega arith)
+
 -- One line more, of each kind, and the end of the text.
 module _ {f : ℕ} {t : Table} {b : ℕ} {text stack : List ℕ} {run : Progress} {at lines : ℕ} (g : Going b f t text stack run at lines) where
-  pub shape_out : IsLine text at Shape → refusal line_shape (lines + 1) ≡ check_lines b f t (lines_of text)
+  pub shape_out : IsLine text at None → refusal line_shape (lines + 1) ≡ check_lines b f t (lines_of text)
   shape_out h = sym (shape_line b f t lines (point_of run stack) h.1) ∙ g.rest
 
   pub comment_on : {next : ℕ} → CommentLine text at next → Going b f t text stack run next (lines + 1)
@@ -101,28 +127,27 @@ module _ {f : ℕ} {t : Table} {b : ℕ} {text stack : List ℕ} {run : Progress
         rest = sym (comment_line b f t lines (point_of run stack) h.lines) ∙ g.rest;
       }
 
-  module _ {kind number pos next : ℕ} (h : OperatorLine text at kind number pos next) (r : Turned) (stack' : List ℕ)
-      (d : turned_of r stack' ≡ document_step b f t (kind_operator kind number pos) (point_of run stack)) where
-    pub operator_out : (r.number ≡ 0 → ⊥) → refusal r.number (lines + 1) ≡ check_lines b f t (lines_of text)
-    operator_out z = sym (operator_refused b f t lines (point_of run stack) _ h.lines d z) ∙ g.rest
+  module _ {o : OperatorInCode} {next : ℕ} (h : OperatorLine text at o next) (stack' : List ℕ) where
+    pub operator_out : (r : Reason) → applied_of run (Err r) stack' ≡ document_step b f t (operator_of o) (point_of run stack) → refusal (number r) (lines + 1) ≡ check_lines b f t (lines_of text)
+    operator_out r d = sym (operator_refused b f t lines (point_of run stack) _ h.lines d (reason_told r)) ∙ g.rest
 
-    pub operator_counts : r.number ≡ 0 → Counted f t (kind_operator kind number pos) (point_of run stack) (point_of r.progress stack')
-    operator_counts z =
-        let n : (document_step b f t (kind_operator kind number pos) (point_of run stack)).number ≡ 0 = sym (ap (λ (m : Moved). m.number) d) ∙ z in
-        subst (λ (m : Moved). Counted f t (kind_operator kind number pos) (point_of run stack) m.point) (sym d)
-        (counted b f t (kind_operator kind number pos) (point_of run stack) n)
+    module _ (a : Applied) (d : applied_of run (Ok a) stack' ≡ document_step b f t (operator_of o) (point_of run stack)) where
+      pub operator_counts : Counted f t (operator_of o) (point_of run stack) (point_of a.progress stack')
+      operator_counts =
+          subst (λ (m : Moved). Counted f t (operator_of o) (point_of run stack) m.point) (sym d)
+          (counted b f t (operator_of o) (point_of run stack) (sym (ap (λ (m : Moved). m.number) d)))
 
-    pub operator_on : length stack' ≡ stack_cells → ProgressOk r.progress → r.number ≡ 0 → Going b f t text stack' r.progress next (lines + 1)
-    operator_on l k z =
-        let n = (operator_counts z).operators in
-        record {
-          cells = l;
-          ok = k;
-          few = omega (arith, g.few, h.onward, n);
-          passed = omega (arith, g.passed, h.onward);
-          within = h.within;
-          rest = sym (operator_moves b f t lines (point_of run stack) _ h.lines d z) ∙ g.rest;
-        }
+      pub operator_on : length stack' ≡ stack_cells → ProgressOk a.progress → Going b f t text stack' a.progress next (lines + 1)
+      operator_on l k =
+          let n = operator_counts.operators in
+          record {
+            cells = l;
+            ok = k;
+            few = omega (arith, g.few, h.onward, n);
+            passed = omega (arith, g.passed, h.onward);
+            within = h.within;
+            rest = sym (operator_moves b f t lines (point_of run stack) _ h.lines d refl) ∙ g.rest;
+          }
 
   -- A last line without line feed.
   pub cut_out : {end : ℕ} → Whole text end → end ≤ at → at < length text → refusal line_shape (lines + 1) ≡ check_lines b f t (lines_of text)

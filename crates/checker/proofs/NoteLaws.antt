@@ -8,8 +8,10 @@ use native.Mathlib.Decide.{dec_lt}
 use lib.ListN.{length, get_or, set, take, drop, length-set, length-append}
 use lib.Seq.{get_or-set_same, get_or-set_other, take-suc-set, length-take-le, get_or-take}
 use Rattle.basics.specs.Answers.{Answer, number_of, value_of, check}
-use Rattle.rules.specs.declared.Verdict.{Verdict}
-use Rattle.rules.specs.declared.Verdict.TheVariants.{Accepted, Refused}
+use Rattle.std.specs.Prelude.{Result, Ok, Err}
+use Rattle.basics.specs.declared.Refusal.{Refusal}
+use Rattle.rules.specs.declared.Tally.{Tally as TallyInCode}
+use Rattle.rules.specs.declared.Operator.{Operator as OperatorInCode}
 use Rattle.rules.specs.Reasons.{stack_not_empty, goal_missing}
 use Rattle.rules.specs.Tables.{Table, goal_facts}
 use Rattle.rules.specs.Facts.{holds}
@@ -17,7 +19,7 @@ use Rattle.rules.specs.Progression.{Step, is_empty}
 use Rattle.rules.specs.Operators.{expand, expand_all}
 use Rattle.rules.specs.Plans.{lines_of, opers_of}
 use Rattle.rules.specs.Checks.{Tally, accepted, operators_in, steps_in, verdict_of, finish}
-use Rattle.laws.specs.Steps.{kind_step, kind_operator}
+use Rattle.laws.specs.Steps.{step_of, operator_of}
 use Rattle.lines.specs.Lines.{OperatorLine, CommentLine}
 use Rattle.lines.proofs.PlaceLaws.{no_line}
 use Rattle.run.specs.Steps.{Point, check_at}
@@ -48,19 +50,19 @@ module _ {f : ℕ} {t : Table} {text notes : List ℕ} {operators steps at : ℕ
   noting_comment h =
       record { space = g.space; rows = g.rows; count = g.count; whole = rw h.lines at g.whole }
 
-  module _ {kind number pos next : ℕ} (h : OperatorLine text at kind number pos next) {row : ℕ} (o : RowOf t (kind_step kind number) row) (l : operators < most_notes) where
+  module _ {op : OperatorInCode} {next : ℕ} (h : OperatorLine text at op next) {row : ℕ} (o : RowOf t (step_of op.kind op.number) row) (l : operators < most_notes) where
     abbrev noted : List ℕ
     noted = set notes operators row
 
     abbrev those : List Step
-    those = expand f t (kind_operator kind number pos)
+    those = expand f t (operator_of op)
 
     more : rows_steps f t (take (suc operators) noted) ≡ rows_steps f t (take operators notes) ++ those
     more =
         ap (rows_steps f t) (take-suc-set notes operators row (omega (arith, g.space)))
         ∙ rows_append f t (take operators notes) (row ∷ [])
         ∙ ap (λ (zs : List Step). rows_steps f t (take operators notes) ++ zs)
-        (append-nil (expand f t (row_operator t row)) ∙ ap (λ (x : Step). expand f t (record { what = x; at = pos })) o.step)
+        (append-nil (expand f t (row_operator t row)) ∙ ap (λ (x : Step). expand f t (record { what = x; at = op.position })) o.step)
 
     its_row : (n : ℕ) → n < suc operators → IsRow t (get_or noted n 0)
     its_row n m =
@@ -94,16 +96,16 @@ module _ {f : ℕ} {t : Table} {text notes : List ℕ} {operators steps at : ℕ
           rw (get_or-take operators notes n 0 low) (g.rows n low)
 
   -- Whatever the verdict.
-  pub noting_ends : length text ≤ at → operators ≤ most_notes → (r : Verdict) (lines : ℕ) (p : Point) → p.operators ≡ operators → p.steps ≡ steps
+  pub noting_ends : length text ≤ at → operators ≤ most_notes → (r : Result TallyInCode Refusal) (lines : ℕ) (p : Point) → p.operators ≡ operators → p.steps ≡ steps
       → verdict_of r ≡ finish t (check_at lines p) → NotesHeld f t notes r × NotesExpand f t (lines_of text) notes r
-  noting_ends l m (Refused number place) lines p o k e = (tt, tt)
-  noting_ends l m (Accepted cost n s) lines p o k e = go (is_empty p.stack) (holds (goal_facts t) p.facts) e
+  noting_ends l m (Err e) lines p o k q = (tt, tt)
+  noting_ends l m (Ok y) lines p o k q = go (is_empty p.stack) (holds (goal_facts t) p.facts) q
     where
-      go : (x y : Bool) → accepted cost n s ≡ check x stack_not_empty lines (check y goal_missing lines (accepted p.cost p.operators p.steps))
-          → Noted f t notes n s × (rows_steps f t (take n notes) ≡ expand_all f t (opers_of (lines_of text)))
+      go : (x z : Bool) → accepted y.cost y.operators y.steps ≡ check x stack_not_empty lines (check z goal_missing lines (accepted p.cost p.operators p.steps))
+          → Noted f t notes y.operators y.steps × (rows_steps f t (take y.operators notes) ≡ expand_all f t (opers_of (lines_of text)))
       go true true q =
-          let a : n ≡ operators = ap (λ (z : Answer Tally). value_of operators_in z) q ∙ o in
-          let b : s ≡ steps = ap (λ (z : Answer Tally). value_of steps_in z) q ∙ k in
+          let a : y.operators ≡ operators = ap (λ (v : Answer Tally). value_of operators_in v) q ∙ o in
+          let b : y.steps ≡ steps = ap (λ (v : Answer Tally). value_of steps_in v) q ∙ k in
           rw (a, b) (all_noted l m)
       go true false q = let z : ◌≡◌ {A = ℕ} 0 goal_missing = ap number_of q in absurd (omega arith)
-      go false y q = let z : ◌≡◌ {A = ℕ} 0 stack_not_empty = ap number_of q in absurd (omega arith)
+      go false z q = let n : ◌≡◌ {A = ℕ} 0 stack_not_empty = ap number_of q in absurd (omega arith)

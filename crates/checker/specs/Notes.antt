@@ -1,7 +1,7 @@
 -- What the check of a plan notes: the row of each operator in turn.
-use Rattle.std.specs.Prelude.{ℕ, ◌/◌, ◌≤◌, ◌≡◌, List, length, take}
-use Rattle.rules.specs.declared.Verdict.{Verdict}
-use Rattle.rules.specs.declared.Verdict.TheVariants.{Accepted, Refused}
+use Rattle.std.specs.Prelude.{ℕ, ◌/◌, ◌≤◌, ◌≡◌, List, length, take, Result, IfOk}
+use Rattle.basics.specs.declared.Refusal.{Refusal}
+use Rattle.rules.specs.declared.Tally.{Tally}
 use Rattle.rules.specs.Limits.{most_plan_bytes}
 use Rattle.rules.specs.Tables.{Table}
 use Rattle.rules.specs.Operators.{expand_all}
@@ -20,10 +20,8 @@ pub record Noted (f : ℕ) (t : Table) (notes : List ℕ) (operators steps : ℕ
   pub count : length (rows_steps f t (take operators notes)) ≡ steps
 
 -- So it is where a plan is accepted, and their steps are those of its lines.
-abbrev pub NotesHeld : ℕ → Table → List ℕ → Verdict → Type 0
-NotesHeld f t notes (Accepted cost operators steps) = Noted f t notes operators steps
-NotesHeld f t notes (Refused number place) = Unit {0}
+abbrev pub NotesHeld : ℕ → Table → List ℕ → Result Tally Refusal → Type 0
+NotesHeld f t notes r = IfOk r (λ y. Noted f t notes y.operators y.steps)
 
-abbrev pub NotesExpand : ℕ → Table → List Line → List ℕ → Verdict → Type 0
-NotesExpand f t ls notes (Accepted cost operators steps) = rows_steps f t (take operators notes) ≡ expand_all f t (opers_of ls)
-NotesExpand f t ls notes (Refused number place) = Unit {0}
+abbrev pub NotesExpand : ℕ → Table → List Line → List ℕ → Result Tally Refusal → Type 0
+NotesExpand f t ls notes r = IfOk r (λ y. rows_steps f t (take y.operators notes) ≡ expand_all f t (opers_of ls))

@@ -2,7 +2,7 @@
 use mathlib.Core.Path.{◌≡◌, refl, sym, ap, ap₂, ◌∙◌}
 use mathlib.Core.Bool.{Bool, true, false, cond}
 use mathlib.Core.List.{List, [], ◌∷◌, ◌++◌, map, append-nil, append_assoc, map-append}
-use Prim.Native.Nat.{ℕ, suc, ◌+◌, ◌-◌, ◌^◌, ◌≤◌, ◌<◌}
+use Prim.Native.Nat.{ℕ, suc, ◌+◌, ◌-◌, ◌^◌, ◌<◌}
 use native.Mathlib.Decide.{ℕ_discrete}
 use native.Mathlib.Numerals.{add-one}
 use native.Mathlib.Omega.{arith}
@@ -15,17 +15,12 @@ use Rattle.basics.specs.Lists.{rows, concat}
 use Rattle.basics.specs.Texts.{bytes, digits}
 use Rattle.version3.specs.Problems.{Setting, Effect}
 use Rattle.version3.specs.Spelling.{number_line, counted, spell_setting, spell_effect, spell_oper}
-use Rattle.rules.specs.Limits.{most_subtasks}
 use Rattle.rules.specs.Facts.{Join, members_of}
 use Rattle.rules.specs.Problems.{set, holding, kept, altered, fact_effect, change, push, bottom_next, prevails, effects, oper_at}
 use Rattle.laws.proofs.JoinSizes.{without_lt}
 use Rattle.laws.proofs.ListLaws.{there, rows_length, map_rows}
 use Rattle.laws.proofs.MemberLaws.{members_ones}
 use Rattle.laws.proofs.TextLaws.{concat_append, concat_rows}
-use Rattle.template.specs.Sizes.{most_numbers}
-use Rattle.template.specs.Templates.{Blank}
-use Rattle.drawing.specs.Pieces.{Piece}
-use Rattle.drawing.specs.Draws.{Room}
 use Rattle.stack_lines.specs.StackLines.{top_stays_text, task_stays_text, top_moves_text, task_moves_text, pushed, push_all}
 use Rattle.rows.specs.Rows.{Row}
 use Rattle.compose.specs.Groups.{name_piece, cost_piece, prevail_group, effect_group, whole}
@@ -168,29 +163,6 @@ pub bottom_last : (free : ℕ) (rest : List ℕ) (task : ℕ) → 0 < length res
 bottom_last free rest task l e =
     let n : length rest - 1 - 0 ≡ length rest - 1 = omega arith in
     e ∙ ap (λ (k : ℕ). get_or rest k 0) n ∙ there rest (length rest - 1) 0 free (omega arith)
-
--- ---- the room for all of it, which goes by what happens to the stack alone
-
-module _ (stay task bottom : ℕ) (rest : List ℕ) (l : length rest ≤ most_subtasks) where
-  abbrev all : Piece
-  all = whole 0 0 0 0 0 0 stay task bottom rest 0
-
-  pub few_numbers : all.numbers < most_numbers
-  few_numbers = go (eqb stay 1) (eqb bottom task)
-    where
-      go : (a b : Bool) → 1 + (0 + cond a 1 0 + cond b 1 0) + (0 + cond a 0 2 + cond b 0 1) + (length rest - 1) + 0 < most_numbers
-      go true true = omega arith
-      go true false = omega arith
-      go false true = omega arith
-      go false false = omega arith
-
-  pub room_all : {t lens offs : List ℕ} → Blank t lens offs → Room all t lens offs (record { at = 0; from = 0; count = 0 })
-  room_all b =
-      record {
-        space = record { reach = omega arith; bytes = omega (arith, b.text) };
-        lengths = omega (arith, b.lengths, few_numbers);
-        offsets = omega (arith, b.offsets, few_numbers);
-      }
 
 -- ---- the sets of a row
 

@@ -7,29 +7,29 @@ ghost use Rattle.rules.specs.Refusals.{check_plan};
 pub fn ildorzhen_check_number(bound: u64, form: u64, table: &[u8], plan: &[u8]) -> u64
     ensures { result ≡ number_of (check_plan bound form table.now plan.now) }
 {
-    replies::verdict_number(judging::verdict(bound, form, table, plan))
+    replies::number(judging::verdict(bound, form, table, plan))
 }
 
 pub fn ildorzhen_check_place(bound: u64, form: u64, table: &[u8], plan: &[u8]) -> u64
     ensures { result ≡ place_of (check_plan bound form table.now plan.now) }
 {
-    replies::verdict_place(judging::verdict(bound, form, table, plan))
+    replies::place(judging::verdict(bound, form, table, plan))
 }
 
 pub fn ildorzhen_check_cost(bound: u64, form: u64, table: &[u8], plan: &[u8]) -> u64
     ensures { result ≡ value_of cost_of (check_plan bound form table.now plan.now) }
 {
-    replies::verdict_cost(judging::verdict(bound, form, table, plan))
+    replies::cost(judging::verdict(bound, form, table, plan))
 }
 
 pub fn ildorzhen_check_operators(bound: u64, form: u64, table: &[u8], plan: &[u8]) -> u64
     ensures { result ≡ value_of operators_in (check_plan bound form table.now plan.now) }
 {
-    replies::verdict_operators(judging::verdict(bound, form, table, plan))
+    replies::operators(judging::verdict(bound, form, table, plan))
 }
 
 pub fn ildorzhen_check_steps(bound: u64, form: u64, table: &[u8], plan: &[u8]) -> u64
     ensures { result ≡ value_of steps_in (check_plan bound form table.now plan.now) }
 {
-    replies::verdict_steps(judging::verdict(bound, form, table, plan))
+    replies::steps(judging::verdict(bound, form, table, plan))
 }

@@ -13,7 +13,7 @@ pub fn ildorzhen_search_number(
 ) -> u64
     ensures { result ≡ number_of (search_plan bound form limit budget table.now (length text.now)) }
 {
-    replies::findings::number(seeking::measure(bound, form, limit, budget, table, text.len()))
+    replies::number(seeking::measure(bound, form, limit, budget, table, text.len()))
 }
 
 pub fn ildorzhen_search_place(
@@ -26,7 +26,7 @@ pub fn ildorzhen_search_place(
 ) -> u64
     ensures { result ≡ place_of (search_plan bound form limit budget table.now (length text.now)) }
 {
-    replies::findings::place(seeking::measure(bound, form, limit, budget, table, text.len()))
+    replies::place(seeking::measure(bound, form, limit, budget, table, text.len()))
 }
 
 pub fn ildorzhen_search_applied(
@@ -39,7 +39,7 @@ pub fn ildorzhen_search_applied(
 ) -> u64
     ensures { result ≡ value_of applied_in (search_plan bound form limit budget table.now (length text.now)) }
 {
-    replies::findings::applied(seeking::measure(bound, form, limit, budget, table, text.len()))
+    replies::applied(seeking::measure(bound, form, limit, budget, table, text.len()))
 }
 
 pub fn ildorzhen_search_length(
@@ -52,7 +52,7 @@ pub fn ildorzhen_search_length(
 ) -> u64
     ensures { result ≡ value_of plan_bytes (search_plan bound form limit budget table.now (length text.now)) }
 {
-    replies::findings::bytes(seeking::measure(bound, form, limit, budget, table, text.len()))
+    replies::bytes(seeking::measure(bound, form, limit, budget, table, text.len()))
 }
 
 pub fn ildorzhen_search_write(
@@ -66,5 +66,5 @@ pub fn ildorzhen_search_write(
     ensures value { result ≡ value_of plan_bytes (search_plan bound form limit budget table.now (length text.old)) }
     ensures text_after { text.new ≡ written text.old 0 (text_found (search_plan bound form limit budget table.now (length text.old))) }
 {
-    replies::findings::bytes(seeking::write(bound, form, limit, budget, table, text))
+    replies::bytes(seeking::write(bound, form, limit, budget, table, text))
 }

@@ -5,72 +5,48 @@ ghost use Rattle.std.specs.Prelude.{◌≤◌};
 ghost use Rattle.basics.specs.Texts.{ThreeDigits};
 ghost use Rattle.template.specs.Sizes.{most_offset};
 ghost use Rattle.drawing.specs.Pieces as Pieces;
-ghost use Rattle.drawing.specs.Draws.{Space, Room, Draws, Writes};
+ghost use Rattle.drawing.specs.Draws.{Room, Draws};
 
-use template::Pen;
+use template::Template;
 
 // Text in which no number moves.
-pub fn write(t: &mut [u8], pen: Pen, s: &[u8]) -> Pen
-    requires { Space (Pieces.plain s.now) t.old pen }
-    ensures { Writes (Pieces.plain s.now) t.old pen t.new result }
+pub fn write<const B: usize, const N: usize>(t: &mut Template<B, N>, s: &[u8])
+    requires { Room (Pieces.plain s.now) t.old }
+    ensures { Draws (Pieces.plain s.now) t.old t.new }
 {
-    let next = text::put(t, pen.at, s);
-    Pen {
-        at: next,
-        from: pen.from,
-        count: pen.count,
-    }
+    t.at = text::put(&mut t.text, t.at, s);
 }
 
 // Text, and a number of at most three digits that does not move.
-pub fn field(t: &mut [u8], pen: Pen, s: &[u8], n: u64) -> Pen
-    requires { Space (Pieces.field s.now n) t.old pen × ThreeDigits n }
-    ensures { Writes (Pieces.field s.now n) t.old pen t.new result }
+pub fn field<const B: usize, const N: usize>(t: &mut Template<B, N>, s: &[u8], n: u64)
+    requires { Room (Pieces.field s.now n) t.old × ThreeDigits n }
+    ensures { Draws (Pieces.field s.now n) t.old t.new }
 {
-    let next = text::put_field(t, pen.at, s, n);
-    Pen {
-        at: next,
-        from: pen.from,
-        count: pen.count,
-    }
+    t.at = text::put_field(&mut t.text, t.at, s, n);
 }
 
 // Text, and the position plus o.
-pub fn moving(
-    t: &mut [u8],
-    lens: &mut [usize],
-    offs: &mut [usize],
-    pen: Pen,
-    s: &[u8],
-    o: usize,
-) -> Pen
-    requires { Room (Pieces.moving s.now o) t.old lens.old offs.old pen × (o ≤ most_offset) }
-    ensures { Draws (Pieces.moving s.now o) t.old lens.old offs.old pen t.new lens.new offs.new result }
+pub fn moving<const B: usize, const N: usize>(t: &mut Template<B, N>, s: &[u8], o: usize)
+    requires { Room (Pieces.moving s.now o) t.old × (o ≤ most_offset) }
+    ensures { Draws (Pieces.moving s.now o) t.old t.new }
 {
-    let stop = write(t, pen, s);
-    template::number(lens, offs, stop, o)
+    write(t, s);
+    t.number(o);
 }
 
 // The same two with a line feed after them.
-pub fn field_line(t: &mut [u8], pen: Pen, s: &[u8], n: u64) -> Pen
-    requires { Space (Pieces.field_line s.now n) t.old pen × ThreeDigits n }
-    ensures { Writes (Pieces.field_line s.now n) t.old pen t.new result }
+pub fn field_line<const B: usize, const N: usize>(t: &mut Template<B, N>, s: &[u8], n: u64)
+    requires { Room (Pieces.field_line s.now n) t.old × ThreeDigits n }
+    ensures { Draws (Pieces.field_line s.now n) t.old t.new }
 {
-    let next = field(t, pen, s, n);
-    write(t, next, b"\n")
+    field(t, s, n);
+    write(t, b"\n");
 }
 
-pub fn moving_line(
-    t: &mut [u8],
-    lens: &mut [usize],
-    offs: &mut [usize],
-    pen: Pen,
-    s: &[u8],
-    o: usize,
-) -> Pen
-    requires { Room (Pieces.moving_line s.now o) t.old lens.old offs.old pen × (o ≤ most_offset) }
-    ensures { Draws (Pieces.moving_line s.now o) t.old lens.old offs.old pen t.new lens.new offs.new result }
+pub fn moving_line<const B: usize, const N: usize>(t: &mut Template<B, N>, s: &[u8], o: usize)
+    requires { Room (Pieces.moving_line s.now o) t.old × (o ≤ most_offset) }
+    ensures { Draws (Pieces.moving_line s.now o) t.old t.new }
 {
-    let next = moving(t, lens, offs, pen, s, o);
-    write(t, next, b"\n")
+    moving(t, s, o);
+    write(t, b"\n");
 }

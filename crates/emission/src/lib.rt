@@ -10,20 +10,24 @@ ghost use Rattle.report.specs.Parts.{Moves, Says};
 ghost use Rattle.parts.specs.Sizes.{part_bytes};
 ghost use Rattle.emission.specs.Jobs.{piece_of, piece_count, TableHeld, Stands, Does};
 
-use opening::Opening;
+use basics::Refusal;
 use report::{Input, Part};
 use std::io;
 use template::FIGURE_BYTES;
+use words::Words;
 
 // What is read of the input, with the name that specs/Inputs of `report` has for it.
 pub const MOST_INPUT: usize = 2 + rules::limits::MOST_TABLE_BYTES + 1;
 
-// What there is to write: the problem of bound and form, or a refusal's number and place.
+// The problem that is written, of the table in the words.
 #[derive(Clone, Copy)]
-enum Job {
-    Problem(u64, u64),
-    Refusal(u64, u64),
+struct Problem {
+    bound: u64,
+    form: u64,
 }
+
+// What there is to write: a problem, or a refusal's line.
+type Job = Result<Problem, Refusal>;
 
 // What the program does with what it has read into the buffer.
 pub fn answer<P: Print>(printer: &P, buffer: &[u8], input: Input) -> io::Result<()>
@@ -48,9 +52,10 @@ fn send_parts<P: Print>(
 {
     let parts = piece_count(job, words);
     let mut next = 0;
+    // No index is counted: each part says which piece comes after it.
     while next < parts {
         let part = put_part(job, words, figures, next, out);
-        next = report::send(printer, out, part)?;
+        next = part.send(printer, out)?;
     }
     Ok(())
 }
@@ -62,8 +67,7 @@ fn open_read(buffer: &[u8], input: Input, words: &mut [u64], figures: &mut [u8])
     ensures by_index { (s : List ℕ) → ReadFrom s buffer.now input → Does (emit_output s) result words.new figures.new }
     ensures stands { Stands result words.new figures.new }
 {
-    let n = report::count(input);
-    open(&buffer[..n], words, figures)
+    open(input.of(buffer), words, figures)
 }
 
 // The first byte is the bound, the second the form, and all behind them the table.
@@ -73,14 +77,10 @@ fn open(input: &[u8], words: &mut [u64], figures: &mut [u8]) -> Job
 {
     let bound = report::byte(input, 0) as u64;
     let form = report::byte(input, 1) as u64;
-    let start = report::smaller(2, input.len());
-    match opening::open(bound, form, 0, &input[start..], 0, words) {
-        Opening::Refused(number, place) => Job::Refusal(number, place),
-        Opening::Opened => {
-            template::fill_figures(figures);
-            Job::Problem(bound, form)
-        }
-    }
+    let (_, table) = report::split(input, 2);
+    opening::open(bound, form, Ok(()), table, Ok(()), words)?;
+    template::fill_figures(figures);
+    Ok(Problem { bound, form })
 }
 
 fn piece_count(job: Job, words: &[u64]) -> usize
@@ -88,8 +88,8 @@ fn piece_count(job: Job, words: &[u64]) -> usize
     ensures { result ≡ piece_count job (table_of words.now) }
 {
     match job {
-        Job::Refusal(_, _) => 1,
-        Job::Problem(_, _) => parts::step_count(words) + 2,
+        Ok(_) => parts::step_count(Words { all: words }) + 2,
+        Err(_) => 1,
     }
 }
 
@@ -101,10 +101,13 @@ fn put_part(job: Job, words: &[u64], figures: &[u8], next: usize, out: &mut [u8]
     ensures out_len_unchanged { length out.new ≡ length out.old }
 {
     match job {
-        Job::Refusal(number, place) => {
-            let size = report::refused(out, number, place);
+        Ok(problem) => {
+            let words = Words { all: words };
+            parts::put_problem(words, problem.bound, problem.form, figures, next, out)
+        }
+        Err(refusal) => {
+            let size = report::refused(out, refusal);
             report::part_of(1, size)
         }
-        Job::Problem(bound, form) => parts::put_problem(words, bound, form, figures, next, out),
     }
 }

@@ -1,5 +1,5 @@
 -- What the code's sets, actions and joins say.
-use Rattle.std.specs.Prelude.{ℕ, ◌+◌, ◌*◌, cond, List, [], ◌∷◌, ltb, get_or, set}
+use Rattle.std.specs.Prelude.{ℕ, ◌+◌, ◌*◌, cond, Option, None, Some, List, [], ◌∷◌, ltb, get_or, set}
 use Rattle.rules.specs.Tables.{Action}
 use Rattle.rules.specs.Facts.{Join, members_of}
 use Rattle.facts.specs.declared.Set.{Set}
@@ -11,8 +11,9 @@ abbrev pub set_of : Set → ℕ
 set_of s = s.bits
 
 -- The facts below n that a walk has still to give: the one it has come to and those of the others, or none.
-abbrev pub members_read : ℕ → Members → List ℕ
-members_read n m = cond (ltb m.fact n) (m.fact ∷ members_of n (set_of m.others)) []
+abbrev pub members_read : ℕ → Option Members → List ℕ
+members_read n None = []
+members_read n (Some m) = cond (ltb m.fact n) (m.fact ∷ members_of n (set_of m.others)) []
 
 -- A set among words: how many it takes, the set from a place on, and a set stored there.
 abbrev pub set_words : ℕ

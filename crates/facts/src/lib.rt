@@ -1,11 +1,11 @@
 // Fact sets. Only this crate knows what a set is in memory: a mask, whose bit k stands for fact k.
 #![tactic(auto)]
 
-ghost use Rattle.std.specs.Prelude.{◌≡◌, ℕ, ◌+◌, ◌<◌, ◌≤◌, length};
-ghost use Rattle.std.specs.Int.Bits.{bit_or};
+ghost use Rattle.std.specs.Prelude.{◌≡◌, ℕ, not, ◌+◌, ◌<◌, ◌≤◌, length};
+ghost use Rattle.std.specs.Int.Bits.{bit_and, bit_or};
 ghost use Rattle.std.specs.Int.Count.{ones};
 ghost use Rattle.rules.specs.Limits.{most_facts};
-ghost use Rattle.rules.specs.Facts.{has, holds, changed, without, members_of, join_one, no_join};
+ghost use Rattle.rules.specs.Facts.{has, empty, holds, changed, without, members_of, join_one, no_join};
 ghost use Rattle.facts.specs.Sets.{set_words, set_of, set_at, set_put, members_read, action_read, join_read};
 
 // The words that a set takes, and an action: three sets and a cost.
@@ -40,6 +40,31 @@ pub fn put(words: &mut [u64], at: usize, s: Set)
     words[at] = s.bits;
 }
 
+// What sets are made of: union, difference, and what two have in common.
+impl Set {
+    fn with(self, other: Set) -> Set
+        ensures { set_of result ≡ bit_or (set_of self) (set_of other) }
+    {
+        Set {
+            bits: self.bits | other.bits,
+        }
+    }
+
+    fn without(self, other: Set) -> Set
+        ensures { set_of result ≡ without (set_of self) (set_of other) }
+    {
+        Set {
+            bits: self.bits & !other.bits,
+        }
+    }
+
+    fn meets(self, other: Set) -> bool
+        ensures { result ≡ not (empty (bit_and (set_of self) (set_of other))) }
+    {
+        self.bits & other.bits != 0
+    }
+}
+
 // Whether fact k is in the set.
 pub fn has(s: Set, k: u64) -> bool
     requires { k < most_facts }
@@ -53,10 +78,10 @@ pub fn count(s: Set) -> u64
     ensures value { result ≡ ones (set_of s) }
     ensures upper_bound { result ≤ most_facts }
 {
-    u64::count_ones(s.bits) as u64
+    s.bits.count_ones() as u64
 }
 
-// The facts of a set, rising: the lowest, and a set of the others. Of an empty set the number is one that no fact has.
+// The facts of a set, rising: the lowest, and a set of the others.
 #[derive(Clone, Copy)]
 pub struct Members {
     pub fact: u64,
@@ -65,56 +90,46 @@ pub struct Members {
 
 // One step of a walk over a set. The zeros below the lowest bit are as many as its fact's number; less one, that bit is clear and
 // those above it stay.
-pub fn walk(s: Set) -> Members
+pub fn walk(s: Set) -> Option<Members>
     ensures { (n : ℕ) → n ≤ most_facts → members_read n result ≡ members_of n (set_of s) }
 {
     let bits = s.bits;
     if bits == 0 {
-        return Members {
-            fact: 64,
-            others: s,
-        };
+        return None;
     }
-    let fact = u64::trailing_zeros(bits) as u64;
+    let fact = bits.trailing_zeros() as u64;
     let less = bits - 1;
     let others = Set { bits: bits & less };
-    Members { fact, others }
+    Some(Members { fact, others })
 }
 
 // Whether all needed facts are among the facts.
 pub fn holds(needs: Set, facts: Set) -> bool
     ensures { result ≡ holds (set_of needs) (set_of facts) }
 {
-    needs.bits ^ (needs.bits & facts.bits) == 0
+    needs.without(facts).bits == 0
 }
 
 // The old facts without the deletes, then with the adds.
 pub fn changed(dels: Set, adds: Set, old: Set) -> Set
     ensures { set_of result ≡ changed (set_of dels) (set_of adds) (set_of old) }
 {
-    let left = old.bits ^ (old.bits & dels.bits);
-    Set {
-        bits: left | adds.bits,
-    }
+    old.without(dels).with(adds)
 }
 
 // The facts that prevail: those needed and not deleted.
 pub fn kept(needs: Set, dels: Set) -> Set
     ensures { set_of result ≡ without (set_of needs) (set_of dels) }
 {
-    Set {
-        bits: needs.bits ^ (needs.bits & dels.bits),
-    }
+    needs.without(dels)
 }
 
 // The facts that change: those deleted, and those added and not needed.
 pub fn altered(needs: Set, adds: Set, dels: Set) -> Set
     ensures { set_of result ≡ bit_or (set_of dels) (without (set_of adds) (set_of needs)) }
 {
-    let gained = adds.bits ^ (adds.bits & needs.bits);
-    Set {
-        bits: dels.bits | gained,
-    }
+    let gained = adds.without(needs);
+    dels.with(gained)
 }
 
 // An action, as a table has it.
@@ -131,9 +146,9 @@ pub fn action_of(needs: u64, adds: u64, dels: u64, cost: u64) -> Action
     ensures { action_read result ≡ record { needs = needs; adds = adds; dels = dels; cost = cost } }
 {
     Action {
-        needs: Set { bits: needs },
-        adds: Set { bits: adds },
-        dels: Set { bits: dels },
+        needs: set_of(needs),
+        adds: set_of(adds),
+        dels: set_of(dels),
         cost,
     }
 }
@@ -151,7 +166,7 @@ pub struct Join {
 pub fn no_join() -> Join
     ensures { join_read result ≡ no_join }
 {
-    let none = Set { bits: 0 };
+    let none = set_of(0);
     Join {
         needs: none,
         adds: none,
@@ -164,21 +179,12 @@ pub fn no_join() -> Join
 pub fn join_one(j: Join, a: Action) -> Join
     ensures { join_read result ≡ join_one (join_read j) (action_read a) }
 {
-    let needs = a.needs.bits;
-    let adds = a.adds.bits;
-    let dels = a.dels.bits;
-    let spoiled = needs & j.dels.bits;
-    let open = needs ^ (needs & j.adds.bits);
-    let left = j.adds.bits ^ (j.adds.bits & dels);
-    let gone = j.dels.bits | dels;
+    let open = a.needs.without(j.adds);
+    let gone = j.dels.with(a.dels);
     Join {
-        needs: Set {
-            bits: j.needs.bits | open,
-        },
-        adds: Set { bits: left | adds },
-        dels: Set {
-            bits: gone ^ (gone & adds),
-        },
-        dead: j.dead | (spoiled != 0),
+        needs: j.needs.with(open),
+        adds: changed(a.dels, a.adds, j.adds),
+        dels: gone.without(a.adds),
+        dead: j.dead | a.needs.meets(j.dels),
     }
 }

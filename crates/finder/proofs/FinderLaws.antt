@@ -3,39 +3,27 @@ use Prim.Native.Nat.{ℕ, ◌+◌, ◌≤◌, ◌<◌}
 use mathlib.Core.Path.{◌≡◌, refl, sym, ap, subst, ◌∙◌}
 use mathlib.Core.Bool.{Bool, true, false}
 use mathlib.Core.List.{List}
-use mathlib.Core.Option.{none, some}
+use mathlib.Core.Option.{some}
 use native.Mathlib.Omega.{arith}
-use borrow.Author.Tests.{le-leb, lt-leb}
 use lib.ListN.{length}
 use lib.Dec.{leb}
 use lib.Seq.{sets}
 use Rattle.basics.specs.Answers.{Answer, answer, refusal, check, after}
 use Rattle.rules.specs.Limits.{most_bound}
-use Rattle.rules.specs.Reasons.{no_plan, over_budget, no_room}
+use Rattle.rules.specs.Reasons.{no_room}
 use Rattle.rules.specs.Tables.{Table}
 use Rattle.rules.specs.Progression.{begin}
 use Rattle.rules.specs.Operators.{Operator}
 use Rattle.rules.specs.Searches.{IsPlan}
 use Rattle.rules.specs.Walks.{Walked, walk}
-use Rattle.rules.specs.Refusals.{Sought, plan_text, plan_bytes, plan_of, judged, room_for_plan, text_found, written}
+use Rattle.rules.specs.Refusals.{Sought, plan_text, plan_bytes, room_for_plan, text_found, written}
 use Rattle.laws.specs.Valid.{Valid}
 use Rattle.laws.proofs.RefusalLaws.{stores_written}
 use Rattle.theorems.specs.Shapes.{AllSmall}
 use Rattle.sought.proofs.Search.{walk_plan}
 use Rattle.sought.proofs.Plans.{applicable_small}
 use Rattle.sought.proofs.SearchAnswers.{plan_fits, plan_short}
-use Rattle.replies.specs.Findings.{found_of, figures, room_for_figures}
-use Rattle.replies.specs.declared.Finding.TheVariants.{Plan, Refused}
-
-module _ (budget : ℕ) (w : Walked) where
-  pub walk_over : budget < w.count → judged budget w ≡ refusal over_budget 0
-  walk_over h = rw (lt-leb w.count budget h)
-
-  pub walk_none : {n : ℕ} → w ≡ record { plan = none; count = n } → n ≤ budget → judged budget w ≡ refusal no_plan n
-  walk_none {n} e h = ap (judged budget) e ∙ rw (le-leb n budget h)
-
-  pub walk_found : {os : List Operator} {n : ℕ} → w ≡ record { plan = some os; count = n } → n ≤ budget → judged budget w ≡ plan_of (some os) n
-  walk_found {os} {n} e h = ap (judged budget) e ∙ rw (le-leb n budget h)
+use Rattle.replies.specs.Findings.{figures, room_for_figures}
 
 -- The numbers of a plan found have at most three digits.
 pub found_small : (b f : ℕ) (t : Table) → Valid t → b ≤ most_bound → (l : ℕ) (os : List Operator) (n : ℕ)
@@ -45,18 +33,14 @@ found_small b f t v h l os n e =
     let q : IsPlan b f t l (some os) = subst (IsPlan b f t l) (ap (λ (w : Walked). w.plan) e) (walk_plan b f t l) in
     applicable_small b f t v h os (begin t) q.plan.accepted.applicable
 
--- A refusal, and what it leaves of the bytes lent.
-module _ (old : List ℕ) (a : Answer Sought) where
-  pub refusal_found : {number place : ℕ} → a ≡ refusal number place
-      → (found_of (Refused number place) ≡ figures a) × (old ≡ written old 0 (text_found (after a (room_for_plan (length old)))))
-  unfolding written
-  refusal_found e = (sym (ap figures e), sym (ap (λ (x : Answer Sought). written old 0 (text_found (after x (room_for_plan (length old))))) e))
+-- A refusal leaves the bytes lent.
+pub nothing_written : (old : List ℕ) (a : Answer Sought) {number place : ℕ} → a ≡ refusal number place
+    → old ≡ written old 0 (text_found (after a (room_for_plan (length old))))
+unfolding written
+nothing_written old a e = sym (ap (λ (x : Answer Sought). written old 0 (text_found (after x (room_for_plan (length old))))) e)
 
 -- A plan's text of so many bytes, told and written where there is room.
 module _ (old : List ℕ) (y : Sought) (bytes : ℕ) (e : bytes ≡ plan_bytes y) where
-  pub plan_told : found_of (Plan bytes y.applied) ≡ figures (answer y)
-  plan_told = λ i. answer (record { bytes = e i; applied = y.applied })
-
   pub plan_kept : length old < bytes → old ≡ written old 0 (text_found (room_for_plan (length old) y))
   unfolding written
   plan_kept h = sym (ap (λ (a : Answer Sought). written old 0 (text_found a)) (plan_short (length old) y (omega arith)))

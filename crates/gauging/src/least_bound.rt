@@ -3,15 +3,13 @@ ghost use Rattle.std.specs.Prelude.{◌≡◌};
 ghost use Rattle.basics.specs.Answers.{reply_of};
 ghost use Rattle.rules.specs.Refusals.{find_least};
 
-use basics::Reply;
-use opening::Opening;
+use basics::Refusal;
+use words::Words;
 
-pub fn find_least(form: u64, table: &[u8]) -> Reply
+pub fn find_least(form: u64, table: &[u8]) -> Result<u64, Refusal>
     ensures { reply_of result ≡ find_least form table.now }
 {
     let mut words = [0u64; words::SIZE];
-    match opening::open_formed(form, 0, table, 0, &mut words) {
-        Opening::Refused(number, place) => Reply::Refused(number, place),
-        Opening::Opened => Reply::Value(least::least(&words, form)),
-    }
+    opening::open_formed(form, Ok(()), table, Ok(()), &mut words)?;
+    Ok(least::least(Words { all: &words }, form))
 }

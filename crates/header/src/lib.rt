@@ -1,31 +1,16 @@
 // What stands before the actions of a table: seven numbers, each checked against its range.
 #![tactic(auto)]
 
-ghost use Rattle.std.specs.Prelude.{◌≡◌, ◌+◌, ◌-◌, ◌≤◌};
-ghost use Rattle.rules.specs.Limits.{most_facts, most_tasks};
+ghost use Rattle.std.specs.Prelude.{◌≡◌, ◌≤◌};
+ghost use Rattle.rules.specs.Limits.{most_facts};
 ghost use Rattle.rules.specs.Tables.{all_facts, header};
-ghost use Rattle.header.specs.Answers.{head_of, start_goal};
+ghost use Rattle.header.specs.Answers.{head_of};
 
-use numbers::{Num, field};
+use basics::Refusal;
+use numbers::field;
+use rules::Reason;
 use rules::limits::{MOST_ACTIONS, MOST_FACTS, MOST_METHODS, MOST_TASKS};
-use rules::reasons::{NOT_THERE, OUT_OF_RANGE};
-
-#[derive(Clone, Copy)]
-pub struct Header {
-    pub facts: u64,
-    pub actions: u64,
-    pub abstracts: u64,
-    pub methods: u64,
-    pub start: u64,
-    pub init: u64,
-    pub goal: u64,
-}
-
-#[derive(Clone, Copy)]
-pub enum OneHeader {
-    Got(Header, usize),
-    Bad(u64, usize),
-}
+use words::Header;
 
 // The greatest set of the first f facts.
 pub fn all_facts(f: u64) -> u64
@@ -38,61 +23,28 @@ pub fn all_facts(f: u64) -> u64
     (1u64 << f) - 1
 }
 
-// The starting task, the start facts and the goal facts, after the counts.
-fn read_start_goal(
-    s: &[u8],
-    at: usize,
-    facts: u64,
-    actions: u64,
-    abstracts: u64,
-    methods: u64,
-) -> OneHeader
-    requires { (facts ≤ most_facts) × (1 ≤ abstracts) × (actions + abstracts ≤ most_tasks) }
-    ensures { head_of result ≡ start_goal s.now facts actions abstracts methods at }
-{
-    match field(s, at, actions, actions + abstracts - 1, NOT_THERE) {
-        Num::Bad(why, p) => OneHeader::Bad(why, p),
-        Num::Got(start, p1) => {
-            let top = all_facts(facts);
-            match field(s, p1, 0, top, NOT_THERE) {
-                Num::Bad(why, p) => OneHeader::Bad(why, p),
-                Num::Got(init, p2) => match field(s, p2, 0, top, NOT_THERE) {
-                    Num::Bad(why, p) => OneHeader::Bad(why, p),
-                    Num::Got(goal, p3) => OneHeader::Got(
-                        Header {
-                            facts,
-                            actions,
-                            abstracts,
-                            methods,
-                            start,
-                            init,
-                            goal,
-                        },
-                        p3,
-                    ),
-                },
-            }
-        }
-    }
-}
-
-// The first seven numbers: the counts, then the rest.
-pub fn read_header(s: &[u8]) -> OneHeader
+// The header, and the place after it.
+#[tactic(auto, unfolding(rules::specs::Tables::header))]
+pub fn read_header(s: &[u8]) -> Result<(Header, usize), Refusal>
     ensures { head_of result ≡ header s.now 0 }
 {
-    match field(s, 0, 0, MOST_FACTS, OUT_OF_RANGE) {
-        Num::Bad(why, p) => OneHeader::Bad(why, p),
-        Num::Got(facts, p1) => match field(s, p1, 0, MOST_ACTIONS, OUT_OF_RANGE) {
-            Num::Bad(why, p) => OneHeader::Bad(why, p),
-            Num::Got(actions, p2) => match field(s, p2, 1, MOST_TASKS - actions, OUT_OF_RANGE) {
-                Num::Bad(why, p) => OneHeader::Bad(why, p),
-                Num::Got(abstracts, p3) => match field(s, p3, 0, MOST_METHODS, OUT_OF_RANGE) {
-                    Num::Bad(why, p) => OneHeader::Bad(why, p),
-                    Num::Got(methods, p4) => {
-                        read_start_goal(s, p4, facts, actions, abstracts, methods)
-                    }
-                },
-            },
-        },
-    }
+    let (facts, at) = field(s, 0, 0, MOST_FACTS, Reason::OutOfRange as u64)?;
+    let (actions, at) = field(s, at, 0, MOST_ACTIONS, Reason::OutOfRange as u64)?;
+    let (abstracts, at) = field(s, at, 1, MOST_TASKS - actions, Reason::OutOfRange as u64)?;
+    let (methods, at) = field(s, at, 0, MOST_METHODS, Reason::OutOfRange as u64)?;
+    let last = actions + abstracts - 1;
+    let (start, at) = field(s, at, actions, last, Reason::NotThere as u64)?;
+    let top = all_facts(facts);
+    let (init, at) = field(s, at, 0, top, Reason::NotThere as u64)?;
+    let (goal, at) = field(s, at, 0, top, Reason::NotThere as u64)?;
+    let header = Header {
+        facts,
+        actions,
+        abstracts,
+        methods,
+        start,
+        init: facts::set_of(init),
+        goal: facts::set_of(goal),
+    };
+    Ok((header, at))
 }

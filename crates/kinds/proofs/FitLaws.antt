@@ -25,10 +25,6 @@ module _ {none x none' : List ℕ} {n : ℕ} (m : Puts none 0 x none' n) where
         text = w.text (omega (arith, w.next)) ∙ stores_written old x 0 room ∙ sym (ap (written old 0) (room_fits (length old) 0 x room));
       }
 
--- The same text, said otherwise.
-pub fits_is : {old x y new : List ℕ} {r : ℕ} → y ≡ x → Fits old x new r → Fits old y new r
-fits_is e w = rw e w
-
 -- The section that was asked for.
 pub fits_chosen : {old x new : List ℕ} {r : ℕ} (y : Answer (List ℕ)) → y ≡ answer x → Fits old x new r
     → (answer r ≡ length_of y) × (new ≡ written old 0 (after y (room_for (length old) 0)))

@@ -2,7 +2,7 @@
 // before the first byte is written.
 #![tactic(auto)]
 
-ghost use Rattle.std.specs.Prelude.{◌+◌, ◌*◌, ◌≤◌, ◌<◌};
+ghost use Rattle.std.specs.Prelude.{ℕ, List, ◌+◌, ◌*◌, ◌≤◌, ◌<◌};
 ghost use Rattle.basics.specs.Texts.{bytes};
 ghost use Rattle.version3.specs.Spelling.{preamble, middle};
 ghost use Rattle.rules.specs.Limits.{most_bound};
@@ -10,98 +10,68 @@ ghost use Rattle.rules.specs.Tables.{action_count, method_count};
 ghost use Rattle.rules.specs.Operators.{positions};
 ghost use Rattle.rules.specs.Problems.{variable_count, problem_of};
 ghost use Rattle.laws.specs.Steps.{step_at, variable_text};
-ghost use Rattle.words.specs.Words.{table_of, Held};
-ghost use Rattle.template.specs.Sizes.{operator_bytes};
-ghost use Rattle.template.specs.Templates.{PenStands, rendered};
+ghost use Rattle.words.specs.Words.{table_of};
 ghost use Rattle.step_text.specs.Operators.{operator_text_at};
-ghost use Rattle.kinds.specs.Fits.{Fits};
+ghost use Rattle.kinds.specs.Fits.{Fits, Writes};
 
-use template::{MOST_NUMBERS, Pen, TEMPLATE_BYTES};
+use template::{MOST_NUMBERS, TEMPLATE_BYTES, Template};
+use words::Words;
 
-pub fn put_preamble(words: &[u64], bound: u64, part: &mut [u8]) -> usize
-    requires { Held words.now × (bound ≤ most_bound) }
-    ensures { Fits part.old (preamble (variable_count bound (table_of words.now))) part.new result }
+// What the writer puts, where there is room for it; its length.
+fn fit<F: Fn(&mut [u8]) -> usize>(part: &mut [u8], put: F) -> usize
+    requires { F.IsAlwaysCallable put }
+    ensures { (x : List ℕ) → Writes (F.post put) x → Fits part.old x part.new result }
 {
     let mut none = [0u8; 0];
-    let size = variables::put_preamble(words, bound, &mut none, 0);
-    if part.len() < size {
+    let size = put(&mut none);
+    let short = part.len() < size;
+    if short {
         return size;
     }
-    variables::put_preamble(words, bound, part, 0)
+    put(part)
 }
 
-pub fn put_variable(words: &[u64], bound: u64, v: u64, part: &mut [u8]) -> usize
-    requires { Held words.now × (bound ≤ most_bound) × (v < variable_count bound (table_of words.now)) }
-    ensures { Fits part.old (variable_text bound (table_of words.now) v) part.new result }
+pub fn put_preamble(words: Words, bound: u64, part: &mut [u8]) -> usize
+    requires { bound ≤ most_bound }
+    ensures { Fits part.old (preamble (variable_count bound (table_of words.entry.all.now))) part.new result }
 {
-    let mut none = [0u8; 0];
-    let size = variables::put_variable(words, bound, v, &mut none, 0);
-    if part.len() < size {
-        return size;
-    }
-    variables::put_variable(words, bound, v, part, 0)
+    fit(part, |out| variables::put_preamble(words, bound, out, 0))
 }
 
-pub fn put_middle(words: &[u64], bound: u64, form: u64, part: &mut [u8]) -> usize
-    requires { Held words.now × (bound ≤ most_bound) }
-    ensures { Fits part.old (middle (problem_of bound form (table_of words.now))) part.new result }
+pub fn put_variable(words: Words, bound: u64, v: u64, part: &mut [u8]) -> usize
+    requires { (bound ≤ most_bound) × (v < variable_count bound (table_of words.all.now)) }
+    ensures { Fits part.old (variable_text bound (table_of words.entry.all.now) v) part.new result }
 {
-    let mut none = [0u8; 0];
-    let size = middle::put_middle(words, bound, form, &mut none, 0);
-    if part.len() < size {
-        return size;
-    }
-    middle::put_middle(words, bound, form, part, 0)
+    fit(part, |out| variables::put_variable(words, bound, v, out, 0))
 }
 
-// A template's text at the position p + 1.
-fn put_composed(
-    t: &[u8],
-    lens: &[usize],
-    offs: &[usize],
-    pen: Pen,
-    p: usize,
-    part: &mut [u8],
-) -> usize
-    requires { PenStands t.now lens.now offs.now pen × (pen.at + 3 * pen.count ≤ operator_bytes) × (p < most_bound) }
-    ensures { Fits part.old (rendered t.now lens.now offs.now pen p) part.new result }
+pub fn put_middle(words: Words, bound: u64, form: u64, part: &mut [u8]) -> usize
+    requires { bound ≤ most_bound }
+    ensures { Fits part.old (middle (problem_of bound form (table_of words.entry.all.now))) part.new result }
 {
-    let mut none = [0u8; 0];
-    let length = template::put_exactly(&mut none, 0, t, lens, offs, pen, p);
-    if part.len() < length {
-        return length;
-    }
-    template::put_exactly(part, 0, t, lens, offs, pen, p)
+    fit(part, |out| middle::put_middle(words, bound, form, out, 0))
 }
 
 // The operator of step i at the position p + 1, composed once.
 pub fn put_operator(
-    words: &[u64],
+    words: Words,
     bound: u64,
     form: u64,
     i: usize,
     p: usize,
     part: &mut [u8],
 ) -> usize
-    requires held { Held words.now × (bound ≤ most_bound) × (i < action_count (table_of words.now) + method_count (table_of words.now)) }
-    requires p_bound { p < positions bound form (table_of words.now) (step_at (table_of words.now) i) }
-    ensures { Fits part.old (operator_text_at form (table_of words.now) i p) part.new result }
+    requires held { (bound ≤ most_bound) × (i < action_count (table_of words.all.now) + method_count (table_of words.all.now)) }
+    requires p_bound { p < positions bound form (table_of words.all.now) (step_at (table_of words.all.now) i) }
+    ensures { Fits part.old (operator_text_at form (table_of words.entry.all.now) i p) part.new result }
 {
-    let mut t = [0u8; TEMPLATE_BYTES];
-    let mut lens = [0usize; MOST_NUMBERS];
-    let mut offs = [0usize; MOST_NUMBERS];
-    let step = step_text::compose_step(words, bound, form, i, &mut t, &mut lens, &mut offs);
-    let pen = step.pen;
-    put_composed(&t, &lens, &offs, pen, p, part)
+    let mut template = Template::<TEMPLATE_BYTES, MOST_NUMBERS>::blank();
+    step_text::compose_step(&mut template, words, bound, form, i);
+    fit(part, |out| template.put_exactly(out, 0, p))
 }
 
 pub fn put_last(part: &mut [u8]) -> usize
     ensures { Fits part.old (bytes "0\n") part.new result }
 {
-    let mut none = [0u8; 0];
-    let size = text::put(&mut none, 0, b"0\n");
-    if part.len() < size {
-        return size;
-    }
-    text::put(part, 0, b"0\n")
+    fit(part, |out| text::put(out, 0, b"0\n"))
 }

@@ -1,22 +1,25 @@
 -- The steps of a table by one number, its actions, then its methods, or by kind and number; and the emitted text part by part.
-use Rattle.std.specs.Prelude.{ℕ, zero, suc, ◌-◌, cond, List, ◌++◌, ltb}
+use Rattle.std.specs.Prelude.{ℕ, suc, ◌-◌, cond, List, ◌++◌, ltb}
 use Rattle.basics.specs.Lists.{upto}
 use Rattle.rules.specs.Tables.{Table, action_count}
 use Rattle.rules.specs.Progression.{Step, act, mth}
 use Rattle.rules.specs.Operators.{Operator, positions}
+use Rattle.rules.specs.declared.Kind.{Kind}
+use Rattle.rules.specs.declared.Kind.TheVariants.{Action, Method}
+use Rattle.rules.specs.declared.Operator.{Operator as OperatorInCode}
 use Rattle.rules.specs.Problems.{variable_count, variable_of, oper_of, problem_of}
 use Rattle.version3.specs.Spelling.{preamble, spell_variable, middle, spell_oper}
 
 abbrev pub step_at : Table → ℕ → Step
 step_at t i = cond (ltb i (action_count t)) (act i) (mth (i - action_count t))
 
--- Kind 0 is an action, any other a method.
-abbrev pub kind_step : ℕ → ℕ → Step
-kind_step zero k = act k
-kind_step (suc n) k = mth k
+-- What the code says of an operator.
+abbrev pub step_of : Kind → ℕ → Step
+step_of Action k = act k
+step_of Method k = mth k
 
-abbrev pub kind_operator : ℕ → ℕ → ℕ → Operator
-kind_operator kind k pos = record { what = kind_step kind k; at = pos }
+abbrev pub operator_of : OperatorInCode → Operator
+operator_of o = record { what = step_of o.kind o.number; at = o.position }
 
 -- The sections of a variable and of an operator.
 abbrev pub variable_text : ℕ → Table → ℕ → List ℕ

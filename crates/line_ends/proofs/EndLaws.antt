@@ -1,17 +1,16 @@
--- A line feed that comes, the ways out of a line's end, and the last line feed, for bytes in hand.
-use mathlib.Core.Path.{◌≡◌, sym, ap, ◌∙◌}
+-- A line feed that comes, and the ways out of a line's end, for bytes in hand.
+use mathlib.Core.Path.{◌≡◌, ap, ◌∙◌}
 use mathlib.Core.Bool.{Bool, true, false, ◌&&◌, cond}
 use mathlib.Core.List.{List}
 use mathlib.Core.Logic.{◌≢◌}
-use Prim.Native.Nat.{ℕ, ◌+◌, ◌-◌, ◌≤◌, ◌<◌}
+use Prim.Native.Nat.{ℕ, ◌+◌, ◌≤◌, ◌<◌}
 use native.Mathlib.Omega.{arith}
-use native.Mathlib.Decide.{dec_le}
 use native.Mathlib.Numerals.{add-one}
 use lib.Dec.{eqb}
-use lib.ListN.{length, get_or, drop, get_or-eq_default}
+use lib.ListN.{length, get_or, drop}
 use lib.Seq.{drop-cons}
 use borrow.Author.Tests.{eq-eqb, ne_eqb}
-use Rattle.line_ends.specs.Ends.{end_bytes, feed_at, Fed, Whole}
+use Rattle.line_ends.specs.Ends.{end_bytes, feed_at, Fed}
 
 -- A line feed comes: the place is inside, and after another byte it comes still.
 module _ {s : List ℕ} {at : ℕ} (f : Fed s at) where
@@ -40,14 +39,14 @@ module _ (s : List ℕ) (at : ℕ) {feed : Bool} (ef : feed ≡ eqb (get_or s at
     end_both g = rw (← ef, h, ← eb, g)
 
 -- A line's end has at most two bytes.
-pub end_most : (s : List ℕ) (at : ℕ) {n : ℕ} → n ≡ end_bytes s at → n ≤ 2
+pub end_most : (s : List ℕ) (at : ℕ) → end_bytes s at ≤ 2
 unfolding end_bytes
-end_most s at {n} h = go (eqb (get_or s at 0) 10) (eqb (get_or s at 0) 13 && eqb (get_or s (at + 1) 0) 10) h
+end_most s at = go (eqb (get_or s at 0) 10) (eqb (get_or s at 0) 13 && eqb (get_or s (at + 1) 0) 10)
   where
-    go : (x y : Bool) → n ≡ cond x 1 (cond y 2 0) → n ≤ 2
-    go true y g = omega (arith, g)
-    go false true g = omega (arith, g)
-    go false false g = omega (arith, g)
+    go : (x y : Bool) → cond x 1 (cond y 2 0) ≤ 2
+    go true y = omega arith
+    go false true = omega arith
+    go false false = omega arith
 
 -- The line feed from a place on.
 module _ (s : List ℕ) (i : ℕ) where
@@ -58,23 +57,3 @@ module _ (s : List ℕ) (i : ℕ) where
   pub feed_more : i < length s → get_or s i 0 ≢ 10 → feed_at (drop i s) ≡ feed_at (drop (i + 1) s) + 1
   unfolding feed_at
   feed_more h b = rw (drop-cons s i 0 h, ne_eqb _ _ b, add-one, add-one)
-
--- No line feed from a place on: none after the end, and one byte less at a time.
-module _ (s : List ℕ) where
-  pub none_past : (i : ℕ) → length s ≤ i → get_or s i 0 ≢ 10
-  none_past i l e = let z : get_or s i 0 ≡ 0 = get_or-eq_default s 0 l in omega arith
-
-  module _ {n : ℕ} (h : (i : ℕ) → n ≤ i → get_or s i 0 ≢ 10) (some : 0 < n) {last : ℕ} (e : last ≡ n - 1) where
-    pub none_from : get_or s last 0 ≢ 10 → (i : ℕ) → last ≤ i → get_or s i 0 ≢ 10
-    none_from b i l =
-        elim (dec_le n i) [
-          | yes g ↦ h i g
-          | no g ↦ (let o : i ≡ last = omega arith in λ q. b (ap (λ (j : ℕ). get_or s j 0) (sym o) ∙ q))
-        ]
-
-    pub whole_found : n ≤ length s → get_or s last 0 ≡ 10 → Whole s n
-    whole_found l b =
-        record { within = l; fed = λ at g. record { feed = last; ahead = omega arith; within = omega arith; ends = b }; none_after = h }
-
-  pub whole_none : {n : ℕ} → ((i : ℕ) → n ≤ i → get_or s i 0 ≢ 10) → n ≤ 0 → Whole s n
-  whole_none h z = record { within = omega arith; fed = λ at g. absurd (omega arith); none_after = h }

@@ -1,9 +1,14 @@
 -- Where the lines of a text end. A byte past the end reads as 0.
-use Rattle.std.specs.Prelude.{◌&&◌, cond, List, [], ◌∷◌, ◌≢◌, ◌≡◌, ℕ, suc, ◌+◌, ◌≤◌, ◌<◌, eqb, length, get_or}
+use Rattle.std.specs.Prelude.{◌&&◌, cond, List, [], ◌∷◌, ◌≢◌, ◌≡◌, ℕ, zero, suc, ◌+◌, ◌≤◌, ◌<◌, eqb, length, get_or, Option, None, Some}
 
 -- How many bytes end an operator's line at a place: one line feed, or a carriage return and a line feed; 0 where neither stands there.
 unfoldable pub end_bytes : List ℕ → ℕ → ℕ
 end_bytes s at = cond (eqb (get_or s at 0) 10) 1 (cond (eqb (get_or s at 0) 13 && eqb (get_or s (at + 1) 0) 10) 2 0)
+
+-- So many bytes, or none.
+abbrev pub some_bytes : ℕ → Option ℕ
+some_bytes zero = None
+some_bytes (suc n) = Some (suc n)
 
 -- How many bytes come before the first line feed, or before the end.
 unfoldable pub feed_at : List ℕ → ℕ

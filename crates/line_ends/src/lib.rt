@@ -1,42 +1,35 @@
 // Where the lines of a plan text end. The last line feed is found first: up to it no byte is tested for being there.
 #![tactic(auto)]
 
-ghost use Rattle.std.specs.Prelude.{◌≡◌, ◌+◌, ◌<◌, eqb, length, get_or, drop};
-ghost use Rattle.line_ends.specs.Ends.{end_bytes, feed_at, Fed, Whole};
+ghost use Rattle.std.specs.Prelude.{◌≡◌, ◌+◌, ◌<◌, length, drop};
+ghost use Rattle.line_ends.specs.Ends.{some_bytes, end_bytes, feed_at, Fed, Whole};
 
-const LINE_FEED: u8 = 10;
+const LINE_FEED: u8 = b'\n';
 
-const CARRIAGE_RETURN: u8 = 13;
+const CARRIAGE_RETURN: u8 = b'\r';
 
-// Whether this byte stands at a place.
-fn has(s: &[u8], at: usize, byte: u8) -> bool
-    requires { at < length s.now }
-    ensures { result ≡ eqb (get_or s.now at 0) byte }
-{
-    s[at] == byte
-}
-
-// How many bytes end an operator's line at a place, 0 if none do. The line feed comes first: it is the usual end.
-pub fn end_bytes(s: &[u8], at: usize) -> usize
+// How many bytes end an operator's line at a place. The line feed comes first: it is the usual end.
+// By hand, since a feed comes: `position` would ask at each byte whether the text ends.
+#[tactic(auto, using(crate::proofs::EndLaws::fed_inside, crate::proofs::EndLaws::fed_on), unfolding(crate::specs::Ends::end_bytes))]
+pub fn end_bytes(s: &[u8], at: usize) -> Option<usize>
     requires { Fed s.now at }
-    ensures { result ≡ end_bytes s.now at }
+    ensures { result ≡ some_bytes (end_bytes s.now at) }
 {
-    if has(s, at, LINE_FEED) {
-        return 1;
-    }
-    match has(s, at, CARRIAGE_RETURN) & has(s, at + 1, LINE_FEED) {
-        true => 2,
-        false => 0,
+    match s[at] {
+        LINE_FEED => Some(1),
+        CARRIAGE_RETURN if s[at + 1] == LINE_FEED => Some(2),
+        _ => None,
     }
 }
 
-// The place of the first line feed from `at` on.
+// The place of the first line feed from `at` on. One comes, so that no end is tested.
+#[tactic(auto, using(crate::proofs::EndLaws::fed_inside, crate::proofs::EndLaws::fed_on, crate::proofs::EndLaws::feed_stop, crate::proofs::EndLaws::feed_more))]
 pub fn feed_from(s: &[u8], at: usize) -> usize
     requires { Fed s.now at }
     ensures { (result ≡ at + feed_at (drop at s.now)) × (result < length s.now) }
 {
     let mut i = at;
-    while !has(s, i, LINE_FEED) {
+    while s[i] != LINE_FEED {
         i += 1;
     }
     i
@@ -46,13 +39,8 @@ pub fn feed_from(s: &[u8], at: usize) -> usize
 pub fn whole_lines(s: &[u8]) -> usize
     ensures { Whole s.now result }
 {
-    let mut n = s.len();
-    while 0 < n {
-        let last = n - 1;
-        if has(s, last, LINE_FEED) {
-            return n;
-        }
-        n = last;
+    match s.iter().rposition(|&b| b == LINE_FEED) {
+        Some(last) => last + 1,
+        None => 0,
     }
-    n
 }

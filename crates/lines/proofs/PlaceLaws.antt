@@ -1,4 +1,5 @@
 -- A line read byte by byte from a place on is the first line of the text from there on.
+use Rattle.std.specs.Prelude.{Option, None, Some}
 use Prim.Native.Nat.{ℕ, zero, suc, ◌+◌, ◌-◌, ◌*◌, ◌≤◌, ◌<◌}
 use mathlib.Core.Path.{◌≡◌, refl, sym, ap, subst, ◌∙◌}
 use mathlib.Core.Bool.{Bool, true, false, ◌&&◌, not, cond, false≢true}
@@ -15,14 +16,15 @@ use Rattle.laws.proofs.TestLaws.{and_l, and_r, and_i}
 use Rattle.line_ends.specs.Ends.{end_bytes, feed_at, Fed, Whole}
 use Rattle.line_ends.proofs.EndLaws.{end_feed, end_none, end_both}
 use Rattle.laws.proofs.PlanLaws.{no_more, no_feed, not_feed, no_feed_at, by_feed_lem, fed, unfed}
-use Rattle.lines.specs.declared.Digits.{Digits}
-use Rattle.lines.specs.declared.Digits.TheVariants.{Got, No}
+use Rattle.rules.specs.declared.Kind.{Kind}
+use Rattle.rules.specs.declared.Kind.TheVariants.{Action, Method}
+use Rattle.rules.specs.declared.Operator.{Operator as OperatorInCode}
 use Rattle.lines.specs.declared.Line.{Line}
-use Rattle.lines.specs.declared.Line.TheVariants.{Op, Comment, Shape}
+use Rattle.lines.specs.declared.Line.TheVariants.{Operator, Comment}
 use Rattle.lines.specs.Places.{shortest_line, small_at, bracketed, positioned, kind_of, operator_at, line_at}
-use Rattle.laws.specs.Steps.{kind_step, kind_operator}
+use Rattle.laws.specs.Steps.{step_of, operator_of}
 use Rattle.lines.specs.Lines.{IsLine}
-use Rattle.lines.proofs.LineLaws.{small_none, small_one, small_zero, small_two, small_three, close_other, close_on, close_ends, line_kind, after_kind, at_operator, at_other, at_comment}
+use Rattle.lines.proofs.LineLaws.{small_none, small_one, small_zero, small_two, small_three, close_other, close_on, close_ends, no_kind, after_kind, at_operator, at_other, at_comment}
 
 -- The bytes from p on: cs, a line feed, rest.
 abbrev Ahead : List ℕ → List ℕ → ℕ → List ℕ → Type 0
@@ -59,10 +61,10 @@ module _ (s rest : List ℕ) (p : ℕ) where
   feed_inside cs h = omega (arith, length-drop p s, ap length h, length-append cs (10 ∷ rest))
 
 -- A number read at a place, and the number that the bytes of the line begin with.
-data Alike (s rest : List ℕ) (p : ℕ) : Digits → plans.Digits → Type 0 where
-  neither : Alike s rest p No unread
-  zero_led : (d : ℕ) (cs : List ℕ) → is_digit d ≡ true → Alike s rest p No (read 0 (d ∷ cs))
-  both : (v q : ℕ) (cs : List ℕ) → p < q → Ahead s rest q cs → T (no_feed cs) → Alike s rest p (Got v q) (read v cs)
+data Alike (s rest : List ℕ) (p : ℕ) : Option (ℕ × ℕ) → plans.Digits → Type 0 where
+  neither : Alike s rest p None unread
+  zero_led : (d : ℕ) (cs : List ℕ) → is_digit d ≡ true → Alike s rest p None (read 0 (d ∷ cs))
+  both : (v q : ℕ) (cs : List ℕ) → p < q → Ahead s rest q cs → T (no_feed cs) → Alike s rest p (Some (v, q)) (read v cs)
 
 ended : (j n : ℕ) (cs : List ℕ) → is_digit (first cs) ≡ false → more j n cs ≡ read n cs
 ended zero n [] h = refl
@@ -70,8 +72,8 @@ ended (suc j) n [] h = refl
 ended j n (c ∷ cs) h = no_more j n c cs (rw h tt)
 
 module _ (s rest : List ℕ) (p : ℕ) where
-  alike : {d e : Digits} {x y : plans.Digits} → d ≡ e → x ≡ y → Alike s rest p d x → Alike s rest p e y
-  alike {d} {e} {x} {y} f g h = subst (λ (w : plans.Digits). Alike s rest p e w) g (subst (λ (w : Digits). Alike s rest p w x) f h)
+  alike : {d e : Option (ℕ × ℕ)} {x y : plans.Digits} → d ≡ e → x ≡ y → Alike s rest p d x → Alike s rest p e y
+  alike {d} {e} {x} {y} f g h = subst (λ (w : plans.Digits). Alike s rest p e w) g (subst (λ (w : Option (ℕ × ℕ)). Alike s rest p w x) f h)
 
   -- Two digits, three, and what they are after the first two and after the first.
   two_digits : (c b : ℕ) (cs : List ℕ) → Ahead s rest p (c ∷ b ∷ cs) → T (no_feed cs) → is_digit c ≡ true → is_digit b ≡ true → c ≢ 48
@@ -131,15 +133,15 @@ module _ (s rest : List ℕ) (p : ℕ) where
       go false e = alike (small_none s p c (byte_at s rest p (c ∷ cs) h) e) (rw e) neither
 
 -- What the code says of a line, and what the document does.
-data Agrees (s rest : List ℕ) (at : ℕ) : Line → plans.Line → Type 0 where
-  operators : (kind number pos next : ℕ) → drop next s ≡ rest → at + shortest_line ≤ next → next ≤ length s → kind ≤ 1
-      → Agrees s rest at (Op kind number pos next) (oper (kind_operator kind number pos))
-  comments : (next : ℕ) → drop next s ≡ rest → at < next → next ≤ length s → Agrees s rest at (Comment next) note
-  shapes : Agrees s rest at Shape other
+data Agrees (s rest : List ℕ) (at : ℕ) : Option Line → plans.Line → Type 0 where
+  operators : (o : OperatorInCode) (next : ℕ) → drop next s ≡ rest → at + shortest_line ≤ next → next ≤ length s
+      → Agrees s rest at (Some (Operator o next)) (oper (operator_of o))
+  comments : (next : ℕ) → drop next s ≡ rest → at < next → next ≤ length s → Agrees s rest at (Some (Comment next)) note
+  shapes : Agrees s rest at None other
 
-agreed : (s rest : List ℕ) (at : ℕ) {c d : Line} {l m : plans.Line} → c ≡ d → l ≡ m → Agrees s rest at c l → Agrees s rest at d m
+agreed : (s rest : List ℕ) (at : ℕ) {c d : Option Line} {l m : plans.Line} → c ≡ d → l ≡ m → Agrees s rest at c l → Agrees s rest at d m
 agreed s rest at {c} {d} {l} {m} f g h =
-    subst (λ (w : plans.Line). Agrees s rest at d w) g (subst (λ (w : Line). Agrees s rest at w l) f h)
+    subst (λ (w : plans.Line). Agrees s rest at d w) g (subst (λ (w : Option Line). Agrees s rest at w l) f h)
 
 -- The bytes of the line's end at a place, where the document has it ended there.
 data Ends (s rest : List ℕ) (p : ℕ) : Bool → Type 0 where
@@ -183,10 +185,10 @@ end_read s rest p (c ∷ d ∷ cs) h n = no_end (sym (end_none s p (other_byte s
         ∙ ap (λ (x : Bool). eqb (get_or s p 0) 13 && x)
         (other_byte s rest (p + 1) d cs (step_on s rest p c (d ∷ cs) h (p + 1) refl) (and_r (not (eqb c 10)) (no_feed (d ∷ cs)) n))
 
-module _ (s rest : List ℕ) (at kind : ℕ) (k : kind ≤ 1) where
+module _ (s rest : List ℕ) (at : ℕ) (kind : Kind) where
   -- The bytes after a position.
   bracket_read : (number i q : ℕ) (cs : List ℕ) → at + 5 ≤ q → Ahead s rest q cs → T (no_feed cs)
-      → Agrees s rest at (bracketed s kind number (Got i q)) (ending (kind_step kind number) i cs)
+      → Agrees s rest at (bracketed s kind number (Some (i, q))) (ending (step_of kind number) i cs)
   bracket_read number i q [] lq h n = agreed s rest at (close_other s kind number i q 10 (byte_at s rest q [] h) (λ e. omega arith)) refl shapes
   bracket_read number i q (c ∷ cs) lq h n = go (eqb c 41) refl
     where
@@ -194,35 +196,35 @@ module _ (s rest : List ℕ) (at kind : ℕ) (k : kind ≤ 1) where
       byte = byte_at s rest q (c ∷ cs) h
 
       by_end : eqb c 41 ≡ true → {x : Bool} → at_end cs ≡ x → Ends s rest (q + 1) x
-          → Agrees s rest at (bracketed s kind number (Got i q)) (ending (kind_step kind number) i (c ∷ cs))
+          → Agrees s rest at (bracketed s kind number (Some (i, q))) (ending (step_of kind number) i (c ∷ cs))
       by_end e a (ended_by m g b w) =
           agreed s rest at (close_ends s kind number i q c byte (eqb-true c 41 e) (sym g) (λ z. omega arith) _ refl) (rw (e, a))
-          (operators kind number i (q + 1 + suc m) b (omega arith) w k)
+          (operators (record { kind = kind; number = number; position = i }) (q + 1 + suc m) b (omega arith) w)
       by_end e a (no_end g) = agreed s rest at (close_on s kind number i q c byte (eqb-true c 41 e) (sym g) refl) (rw (e, a)) shapes
 
-      go : (x : Bool) → eqb c 41 ≡ x → Agrees s rest at (bracketed s kind number (Got i q)) (ending (kind_step kind number) i (c ∷ cs))
+      go : (x : Bool) → eqb c 41 ≡ x → Agrees s rest at (bracketed s kind number (Some (i, q))) (ending (step_of kind number) i (c ∷ cs))
       go true e = by_end e refl (end_read s rest (q + 1) cs (step_on s rest q c cs h (q + 1) refl) (and_r (not (eqb c 10)) (no_feed cs) n))
       go false e = agreed s rest at (close_other s kind number i q c byte (eqb-false c 41 e)) (rw e) shapes
 
-  position_read : (number p : ℕ) {d : Digits} {e : plans.Digits} → at + 4 ≤ p → Alike s rest p d e
-      → Agrees s rest at (bracketed s kind number d) (position (kind_step kind number) e)
+  position_read : (number p : ℕ) {d : Option (ℕ × ℕ)} {e : plans.Digits} → at + 4 ≤ p → Alike s rest p d e
+      → Agrees s rest at (bracketed s kind number d) (position (step_of kind number) e)
   position_read number p lp neither = shapes
   position_read number p lp (zero_led d cs h) = rw (ne_eqb d 41 (not_digit d 41 h refl)) shapes
   position_read number p lp (both i q cs lq h n) = bracket_read number i q cs (omega arith) h n
 
   space_read : (number q : ℕ) (cs : List ℕ) → at + 3 ≤ q → Ahead s rest q cs → T (no_feed cs)
-      → Agrees s rest at (positioned s kind (Got number q)) (space (kind_step kind number) cs)
+      → Agrees s rest at (positioned s kind (Some (number, q))) (space (step_of kind number) cs)
   space_read number q [] lq h n = agreed s rest at (rw (← byte_at s rest q [] h)) refl shapes
   space_read number q (c ∷ cs) lq h n = go (eqb c 32) refl
     where
-      go : (x : Bool) → eqb c 32 ≡ x → Agrees s rest at (positioned s kind (Got number q)) (space (kind_step kind number) (c ∷ cs))
+      go : (x : Bool) → eqb c 32 ≡ x → Agrees s rest at (positioned s kind (Some (number, q))) (space (step_of kind number) (c ∷ cs))
       go true e =
           agreed s rest at (rw (← byte_at s rest q (c ∷ cs) h, e)) (rw e)
           (position_read number (q + 1) (omega arith)
           (number_read s rest (q + 1) cs (step_on s rest q c cs h (q + 1) refl) (and_r (not (eqb c 10)) (no_feed cs) n)))
       go false e = agreed s rest at (rw (← byte_at s rest q (c ∷ cs) h, e)) (rw e) shapes
 
-  name_read : (p : ℕ) {d : Digits} {e : plans.Digits} → at + 2 ≤ p → Alike s rest p d e → Agrees s rest at (positioned s kind d) (named (kind_step kind) e)
+  name_read : (p : ℕ) {d : Option (ℕ × ℕ)} {e : plans.Digits} → at + 2 ≤ p → Alike s rest p d e → Agrees s rest at (positioned s kind d) (named (step_of kind) e)
   name_read p lp neither = shapes
   name_read p lp (zero_led d cs h) = rw (ne_eqb d 32 (not_digit d 32 h refl)) shapes
   name_read p lp (both number q cs lq h n) = space_read number q cs (omega arith) h n
@@ -230,7 +232,7 @@ module _ (s rest : List ℕ) (at kind : ℕ) (k : kind ≤ 1) where
 -- What follows the opening bracket.
 module _ (s rest : List ℕ) (at : ℕ) where
   operator_read : (cs : List ℕ) → Ahead s rest (at + 1) cs → T (no_feed cs) → Agrees s rest at (operator_at s at) (letter cs)
-  operator_read [] h n = agreed s rest at (line_kind s at 10 2 (byte_at s rest (at + 1) [] h) refl (omega arith)) refl shapes
+  operator_read [] h n = agreed s rest at (no_kind s at 10 (byte_at s rest (at + 1) [] h) refl) refl shapes
   operator_read (c ∷ cs) h n = go (eqb c 97) refl (eqb c 109) refl
     where
       byte : c ≡ get_or s (at + 1) 0
@@ -239,13 +241,13 @@ module _ (s rest : List ℕ) (at : ℕ) where
       name : Alike s rest (at + 2) (small_at s (at + 2)) (number cs)
       name = number_read s rest (at + 2) cs (step_on s rest (at + 1) c cs h (at + 2) (omega arith)) (and_r (not (eqb c 10)) (no_feed cs) n)
 
-      of_kind : (kind : ℕ) → kind ≡ kind_of c → kind ≤ 1 → Agrees s rest at (operator_at s at) (named (kind_step kind) (number cs))
-      of_kind kind e k = agreed s rest at (sym (after_kind s at c kind byte e k)) refl (name_read s rest at kind k (at + 2) (omega arith) name)
+      of_kind : (kind : Kind) → kind_of c ≡ Some kind → Agrees s rest at (operator_at s at) (named (step_of kind) (number cs))
+      of_kind kind e = agreed s rest at (sym (after_kind s at c byte e)) refl (name_read s rest at kind (at + 2) (omega arith) name)
 
       go : (x : Bool) → eqb c 97 ≡ x → (y : Bool) → eqb c 109 ≡ y → Agrees s rest at (operator_at s at) (letter (c ∷ cs))
-      go true e y f = agreed s rest at refl (rw e) (of_kind 0 (rw e) (omega arith))
-      go false e true f = agreed s rest at refl (rw (e, f)) (of_kind 1 (rw (e, f)) (omega arith))
-      go false e false f = agreed s rest at (line_kind s at c 2 byte (rw (e, f)) (omega arith)) (rw (e, f)) shapes
+      go true e y f = agreed s rest at refl (rw e) (of_kind Action (rw e))
+      go false e true f = agreed s rest at refl (rw (e, f)) (of_kind Method (rw (e, f)))
+      go false e false f = agreed s rest at (no_kind s at c byte (rw (e, f))) (rw (e, f)) shapes
 
 -- Where the first line feed is.
 feed_after : (cs rest : List ℕ) → T (no_feed cs) → feed_at (cs ++ (10 ∷ rest)) ≡ length cs
@@ -291,21 +293,16 @@ left_over {s} w at h l =
     unfed [] (drop at s) (none_left (drop at s) (λ i e. w.none_after (at + i) (omega arith) (sym (get_or-drop at s i 0) ∙ e)))
     ∙ ap leftover (drop-cons s at 0 l)
 
-first_line : (s rest : List ℕ) (at : ℕ) {r : Line} {l : plans.Line} → lines_of (drop at s) ≡ l ∷ lines_of rest → Agrees s rest at r l → IsLine s at r
-first_line s rest at e (operators kind number pos next b o w k) =
-    record {
-      lines = e ∙ ap (λ (ds : List ℕ). oper (kind_operator kind number pos) ∷ lines_of ds) (sym b);
-      onward = o;
-      within = w;
-      known = k;
-    }
+first_line : (s rest : List ℕ) (at : ℕ) {r : Option Line} {l : plans.Line} → lines_of (drop at s) ≡ l ∷ lines_of rest → Agrees s rest at r l → IsLine s at r
+first_line s rest at e (operators o next b l w) =
+    record { lines = e ∙ ap (λ (ds : List ℕ). oper (operator_of o) ∷ lines_of ds) (sym b); onward = l; within = w }
 first_line s rest at e (comments next b o w) = record { lines = e ∙ ap (λ (ds : List ℕ). note ∷ lines_of ds) (sym b); onward = o; within = w }
 first_line s rest at e shapes = (lines_of rest, e)
 
-pub told : {s : List ℕ} {at : ℕ} {r : Line} → Fed s at → r ≡ line_at s at → IsLine s at r
+pub told : {s : List ℕ} {at : ℕ} {r : Option Line} → Fed s at → r ≡ line_at s at → IsLine s at r
 unfolding lines_of
 told {s} {at} {r} f e =
-    subst (λ (x : Line). IsLine s at x) (sym e)
+    subst (λ (x : Option Line). IsLine s at x) (sym e)
     (by_feed_lem (drop at s)
     (λ n. absurd (no_feed_at (drop at s) n (f.feed - at) feed_there))
     (λ cs rest n h. first_line s rest at (ap lines_of h ∙ fed [] cs rest n) (line_read s rest at cs h n)))

@@ -1,10 +1,14 @@
 -- Links made from the last row to the first.
-use Prim.Native.Nat.{ℕ, ◌+◌, ◌-◌, ◌≤◌, ◌<◌}
+use Prim.Native.Nat.{ℕ, ◌+◌, ◌≤◌, ◌<◌}
 use mathlib.Core.Path.{◌≡◌, sym, ap, subst, ◌∙◌}
 use mathlib.Core.List.{List}
 use native.Mathlib.Omega.{arith}
-use native.Mathlib.Decide.{ℕ_discrete}
-use lib.ListN.{length, get_or, set, length-set}
+use native.Mathlib.Decide.{ℕ_discrete, dec_lt}
+use borrow.Author.Tests.{ltb-true, lt-ltb, le-ltb}
+use lib.Dec.{T, ltb}
+use Rattle.std.specs.Prelude.{Some, is_some, true, false}
+use Rattle.std.proofs.lemmas.Option.{cond_some}
+use lib.ListN.{set, length-set}
 use lib.Seq.{get_or-set_same, get_or-set_other}
 use Rattle.rules.specs.Limits.{most_tasks}
 use Rattle.rules.specs.Tables.{Table}
@@ -14,7 +18,30 @@ use Rattle.laws.specs.Steps.{step_at}
 use Rattle.laws.proofs.StepNumbers.{by_step}
 use Rattle.rows.specs.Sizes.{most_rows}
 use Rattle.rows.specs.Rows.{Row, row_of, row_at, Prepared}
-use Rattle.links.specs.Links.{row_count, link_cells, next_in, first_in, Leads, Linked, LinkedTo}
+use Rattle.links.specs.declared.Links.{Links}
+use Rattle.links.specs.Links.{row_count, next_in, first_in, some_row, Sized, Leads, Linked, LinkedTo}
+
+-- The row of a number, and whether there is one.
+pub some_row_is : (n i : ℕ) → some_row n ≡ Some i → (n < most_rows) × (n ≡ i)
+some_row_is n i e = let q = cond_some (ltb n most_rows) n i e in (ltb-true n most_rows q.0, q.1)
+
+pub row_there : (n : ℕ) → is_some (some_row n) ≡ true → n < most_rows
+row_there n e = go (dec_lt n most_rows)
+  where
+    go : Dec (n < most_rows) → n < most_rows
+    go (yes l) = l
+    go (no m) =
+        let off : is_some (some_row n) ≡ false = rw (le-ltb n most_rows (omega arith)) in
+        absurd (subst T (sym e ∙ off) tt)
+
+pub row_missing : (n : ℕ) → is_some (some_row n) ≡ false → most_rows ≤ n
+row_missing n e = go (dec_lt n most_rows)
+  where
+    go : Dec (n < most_rows) → most_rows ≤ n
+    go (yes l) =
+        let on : is_some (some_row n) ≡ true = rw (lt-ltb n most_rows l) in
+        absurd (subst T (sym on ∙ e) tt)
+    go (no m) = omega arith
 
 -- A row's task is one of the table's, there is room for all rows, and row i is that of step i.
 pub task_low : (t : Table) → Valid t → (i : ℕ) → i < row_count t → task_of t (step_at t i) < most_tasks
@@ -42,21 +69,14 @@ pub last_is : {b f : ℕ} {t : Table} {ops cells : List ℕ} → Prepared b f t 
     → (row_at ops cells i).last ≡ positions b f t (step_at t i)
 last_is p i l = ap (λ (r : Row). r.last) (row_is p i l)
 
--- So many rows are linked from the last on, and not all are.
-pub linked_before : {b f : ℕ} {t : Table} (links : List ℕ) (count done : ℕ) → done < count → LinkedTo b f t links (count - done)
-    → LinkedTo b f t links (count - (done + 1) + 1)
-linked_before {b} {f} {t} links count done l =
-    let e : count - done ≡ count - (done + 1) + 1 = omega arith in
-    subst (LinkedTo b f t links) e
-
 module _ (b f : ℕ) (t : Table) (v : Valid t) where
-  pub none_linked : (links : List ℕ) → length links ≡ link_cells → ((c : ℕ) → c < link_cells → get_or links c 0 ≡ most_rows)
+  pub none_linked : (links : Links) → Sized links → ((c : ℕ) → c < most_tasks → first_in links c ≡ most_rows)
       → (k : ℕ) → k ≡ row_count t → LinkedTo b f t links k
   none_linked links size all k e =
       record {
         within = omega arith;
         size = size;
-        first = λ c l. subst (λ (n : ℕ). Leads b f t c k n) (sym (all (most_rows + c) (omega arith))) (record {
+        first = λ c l. subst (λ (n : ℕ). Leads b f t c k n) (sym (all c l)) (record {
           low = omega (arith, few_rows t v);
           high = omega arith;
           known = λ h. absurd (omega arith);
@@ -65,7 +85,7 @@ module _ (b f : ℕ) (t : Table) (v : Valid t) where
         next = λ i a d p. absurd (omega arith);
       }
 
-  pub all_linked : (links : List ℕ) (k : ℕ) → k ≤ 0 → LinkedTo b f t links k → Linked b f t links
+  pub all_linked : (links : Links) (k : ℕ) → k ≤ 0 → LinkedTo b f t links k → Linked b f t links
   all_linked links k z q =
       let e : k ≡ 0 = omega arith in
       record {
@@ -89,7 +109,7 @@ module _ (b f : ℕ) (t : Table) (v : Valid t) where
           ap (λ (m : ℕ). positions b f t (step_at t m)) z ∙ skip (ap (λ (m : ℕ). task_of t (step_at t m)) (sym z) ∙ s)
       by j a d g s (no m) = p.skips j (omega arith) d g s
 
-  pub left_out : (links : List ℕ) (i : ℕ) → LinkedTo b f t links (i + 1) → positions b f t (step_at t i) ≡ 0 → LinkedTo b f t links i
+  pub left_out : (links : Links) (i : ℕ) → LinkedTo b f t links (i + 1) → positions b f t (step_at t i) ≡ 0 → LinkedTo b f t links i
   left_out links i q gone =
       record {
         within = omega (arith, q.within);
@@ -103,7 +123,7 @@ module _ (b f : ℕ) (t : Table) (v : Valid t) where
       by j a d p (yes z) = let e = ap (λ (m : ℕ). positions b f t (step_at t m)) z in absurd (omega (arith, e, gone, p))
       by j a d p (no m) = q.next j (omega arith) d p
 
-  module _ (links : List ℕ) (i task : ℕ) (q : LinkedTo b f t links (i + 1)) (e : task ≡ task_of t (step_at t i))
+  module _ (links : Links) (i task : ℕ) (q : LinkedTo b f t links (i + 1)) (e : task ≡ task_of t (step_at t i))
       (there : 1 ≤ positions b f t (step_at t i)) where
     row_low : i < row_count t
     row_low = omega (arith, q.within)
@@ -111,34 +131,21 @@ module _ (b f : ℕ) (t : Table) (v : Valid t) where
     task_small : task < most_tasks
     task_small = omega (arith, task_low t v i row_low)
 
-    abbrev once : List ℕ
-    once = set links i (first_in links task)
+    abbrev after : Links
+    after = record { next = set links.next i (first_in links task); first = set links.first task i }
 
-    abbrev twice : List ℕ
-    twice = set once (most_rows + task) i
+    at_task : first_in after task ≡ i
+    at_task = get_or-set_same links.first task i 0 (omega (arith, q.size.first, task_small))
 
-    once_size : length once ≡ link_cells
-    once_size = simp length-set q.size
+    at_row : next_in after i ≡ first_in links task
+    at_row = get_or-set_same links.next i (first_in links task) 0 (omega (arith, q.size.next, row_low, few_rows t v))
 
-    at_task : first_in twice task ≡ i
-    at_task = get_or-set_same once (most_rows + task) i 0 (omega (arith, once_size, task_small))
-
-    at_row : next_in twice i ≡ first_in links task
-    at_row =
-        get_or-set_other once (most_rows + task) i i 0 (omega (arith, row_low, few_rows t v))
-        ∙ get_or-set_same links i (first_in links task) 0 (omega (arith, q.size, row_low, few_rows t v))
-
-    elsewhere : (j : ℕ) → (j ≡ most_rows + task → ⊥) → (j ≡ i → ⊥) → get_or twice j 0 ≡ get_or links j 0
-    elsewhere j a d =
-        get_or-set_other once (most_rows + task) j i 0 (λ z. a (omega arith))
-        ∙ get_or-set_other links i j (first_in links task) 0 (λ z. d (omega arith))
-
-    new_first : (c : ℕ) → c < most_tasks → Leads b f t c i (first_in twice c)
+    new_first : (c : ℕ) → c < most_tasks → Leads b f t c i (first_in after c)
     new_first c l = go (ℕ_discrete c task)
       where
-        go : Dec (c ≡ task) → Leads b f t c i (first_in twice c)
+        go : Dec (c ≡ task) → Leads b f t c i (first_in after c)
         go (yes z) =
-            let w : first_in twice c ≡ i = ap (first_in twice) z ∙ at_task in
+            let w : first_in after c ≡ i = ap (first_in after) z ∙ at_task in
             subst (λ (n : ℕ). Leads b f t c i n) (sym w)
             (record {
               low = omega arith;
@@ -147,29 +154,32 @@ module _ (b f : ℕ) (t : Table) (v : Valid t) where
               skips = λ j a d g s. absurd (omega arith);
             })
         go (no n) =
-            let w = elsewhere (most_rows + c) (λ z. n (omega arith)) (λ z. omega (arith, row_low, few_rows t v)) in
+            let w : first_in after c ≡ first_in links c = get_or-set_other links.first task c i 0 n in
             subst (λ (n : ℕ). Leads b f t c i n) (sym w) (leads_from c i (first_in links c) (λ s. absurd (n (sym s ∙ sym e))) (q.first c l))
 
-    new_next : (j : ℕ) → i ≤ j → j < row_count t → 1 ≤ positions b f t (step_at t j) → Leads b f t (task_of t (step_at t j)) (j + 1) (next_in twice j)
+    new_next : (j : ℕ) → i ≤ j → j < row_count t → 1 ≤ positions b f t (step_at t j) → Leads b f t (task_of t (step_at t j)) (j + 1) (next_in after j)
     new_next j a d p = go (ℕ_discrete j i)
       where
-        go : Dec (j ≡ i) → Leads b f t (task_of t (step_at t j)) (j + 1) (next_in twice j)
+        go : Dec (j ≡ i) → Leads b f t (task_of t (step_at t j)) (j + 1) (next_in after j)
         go (yes z) =
-            let w : next_in twice j ≡ first_in links task = ap (next_in twice) z ∙ at_row in
+            let w : next_in after j ≡ first_in links task = ap (next_in after) z ∙ at_row in
             let s : task ≡ task_of t (step_at t j) = e ∙ ap (λ (n : ℕ). task_of t (step_at t n)) (sym z) in
             let k : i + 1 ≡ j + 1 = omega arith in
             subst (λ (n : ℕ). Leads b f t (task_of t (step_at t j)) (j + 1) n) (sym w)
             (subst (λ (n : ℕ). Leads b f t (task_of t (step_at t j)) n (first_in links task)) k
             (subst (λ (c : ℕ). Leads b f t c (i + 1) (first_in links task)) s (q.first task task_small)))
         go (no n) =
-            let w = elsewhere j (λ z. omega (arith, few_rows t v)) n in
+            let w : next_in after j ≡ next_in links j = get_or-set_other links.next i j (first_in links task) 0 n in
             subst (λ (m : ℕ). Leads b f t (task_of t (step_at t j)) (j + 1) m) (sym w) (q.next j (omega arith) d p)
 
-    pub one_linked : LinkedTo b f t twice i
+    pub one_linked : LinkedTo b f t after i
     one_linked =
         record {
           within = omega (arith, q.within);
-          size = simp length-set q.size;
+          size = record {
+            next = length-set links.next i (first_in links task) ∙ q.size.next;
+            first = length-set links.first task i ∙ q.size.first;
+          };
           first = new_first;
           next = new_next;
         }

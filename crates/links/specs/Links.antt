@@ -1,23 +1,30 @@
 -- The rows of one task whose operators exist, linked in order: of each row the next of its task, and of each task the first.
-use Rattle.std.specs.Prelude.{ℕ, ◌+◌, ◌≤◌, ◌<◌, ◌≡◌, List, length, get_or}
+use Rattle.std.specs.Prelude.{ℕ, ◌+◌, ◌≤◌, ◌<◌, ◌≡◌, cond, Option, Some, None, ltb, length, get_or}
 use Rattle.rules.specs.Limits.{most_tasks}
 use Rattle.rules.specs.Tables.{Table, action_count, method_count}
 use Rattle.rules.specs.Operators.{task_of, positions}
 use Rattle.laws.specs.Steps.{step_at}
 use Rattle.rows.specs.Sizes.{most_rows}
+use Rattle.links.specs.declared.Links.{Links}
 
 abbrev pub row_count : Table → ℕ
 row_count t = action_count t + method_count t
 
--- A cell for each row, and after those one for each task.
-abbrev pub link_cells : ℕ
-link_cells = most_rows + most_tasks
+-- The row after row i of its task, and the first row of task c; most_rows is no row.
+abbrev pub next_in : Links → ℕ → ℕ
+next_in links i = get_or links.next i 0
 
-abbrev pub next_in : List ℕ → ℕ → ℕ
-next_in links i = get_or links i 0
+abbrev pub first_in : Links → ℕ → ℕ
+first_in links c = get_or links.first c 0
 
-abbrev pub first_in : List ℕ → ℕ → ℕ
-first_in links c = get_or links (most_rows + c) 0
+-- The row of a number.
+abbrev pub some_row : ℕ → Option ℕ
+some_row n = cond (ltb n most_rows) (Some n) None
+
+-- A cell for each row, and one for each task.
+pub record Sized (links : Links) : Type 0 where
+  pub next : length links.next ≡ most_rows
+  pub first : length links.first ≡ most_tasks
 
 -- Row v is the first from row k on that has task c and an operator at some position; or there is none, and v is the number that no row has.
 pub record Leads (b f : ℕ) (t : Table) (c k v : ℕ) : Type 0 where
@@ -27,14 +34,14 @@ pub record Leads (b f : ℕ) (t : Table) (c k v : ℕ) : Type 0 where
   pub skips : (j : ℕ) → k ≤ j → j < row_count t → j < v → task_of t (step_at t j) ≡ c → positions b f t (step_at t j) ≡ 0
 
 -- A row whose operator exists nowhere is never reached, so nothing is said of the next after it.
-pub record Linked (b f : ℕ) (t : Table) (links : List ℕ) : Type 0 where
-  pub size : length links ≡ link_cells
+pub record Linked (b f : ℕ) (t : Table) (links : Links) : Type 0 where
+  pub size : Sized links
   pub first : (c : ℕ) → c < most_tasks → Leads b f t c 0 (first_in links c)
   pub next : (i : ℕ) → i < row_count t → 1 ≤ positions b f t (step_at t i) → Leads b f t (task_of t (step_at t i)) (i + 1) (next_in links i)
 
 -- The rows from k on are linked.
-pub record LinkedTo (b f : ℕ) (t : Table) (links : List ℕ) (k : ℕ) : Type 0 where
+pub record LinkedTo (b f : ℕ) (t : Table) (links : Links) (k : ℕ) : Type 0 where
   pub within : k ≤ row_count t
-  pub size : length links ≡ link_cells
+  pub size : Sized links
   pub first : (c : ℕ) → c < most_tasks → Leads b f t c k (first_in links c)
   pub next : (i : ℕ) → k ≤ i → i < row_count t → 1 ≤ positions b f t (step_at t i) → Leads b f t (task_of t (step_at t i)) (i + 1) (next_in links i)

@@ -3,10 +3,9 @@ use mathlib.Core.Path.{◌≡◌, refl, sym, ap, ◌∙◌}
 use mathlib.Core.Bool.{Bool, true, false, cond}
 use mathlib.Core.List.{[], ◌++◌, append_assoc}
 use mathlib.Core.Option.{none, some}
-use Prim.Native.Nat.{ℕ, ◌+◌, ◌*◌, ◌≤◌, ◌<◌}
-use native.Mathlib.Nat.{mul-suc, mul-le-mul_left}
+use Prim.Native.Nat.{ℕ, ◌+◌, ◌*◌}
+use native.Mathlib.Nat.{mul-suc}
 use native.Mathlib.Numerals.{add-one}
-use native.Mathlib.Omega.{arith}
 use Rattle.basics.specs.Lists.{upto, concat}
 use Rattle.basics.specs.Texts.{bytes, digits, digits_f}
 use Rattle.version3.specs.Spelling.{spell_setting, spell_effect}
@@ -17,14 +16,14 @@ use Rattle.laws.proofs.TextLaws.{concat_members}
 use Rattle.facts.specs.Sets.{set_of}
 use Rattle.listing.specs.declared.Says.{Says}
 use Rattle.listing.specs.declared.Says.TheVariants.{Holds, Changes}
-use Rattle.listing.specs.Listings.{fact_line, list_text, line_where, before_bytes, after_bytes}
+use Rattle.listing.specs.Listings.{fact_line, list_text, line_where}
 
 pub holds_line : (k : ℕ) → spell_setting (set k 0) ≡ digits k ++ bytes " 0\n"
 unfolding digits digits_f
 holds_line k = refl
 
 change_words : (k : ℕ) (n d : Bool) → spell_effect (record { variable = k; before = cond n (some 0) none; after = cond d 1 0 })
-    ≡ bytes "0 " ++ digits k ++ before_bytes n ++ after_bytes d
+    ≡ bytes "0 " ++ digits k ++ cond n (bytes " 0 ") (bytes " -1 ") ++ cond d (bytes "1\n") (bytes "0\n")
 unfolding digits digits_f
 change_words k true true = sym (append_assoc (bytes "0 " ++ digits k) (bytes " 0 ") (bytes "1\n"))
 change_words k true false = sym (append_assoc (bytes "0 " ++ digits k) (bytes " 0 ") (bytes "0\n"))
@@ -32,7 +31,7 @@ change_words k false true = sym (append_assoc (bytes "0 " ++ digits k) (bytes " 
 change_words k false false = sym (append_assoc (bytes "0 " ++ digits k) (bytes " -1 ") (bytes "0\n"))
 
 pub change_line : (needs dels k : ℕ) (n d : Bool) → n ≡ has needs k → d ≡ has dels k
-    → spell_effect (fact_effect needs dels k) ≡ bytes "0 " ++ digits k ++ before_bytes n ++ after_bytes d
+    → spell_effect (fact_effect needs dels k) ≡ bytes "0 " ++ digits k ++ cond n (bytes " 0 ") (bytes " -1 ") ++ cond d (bytes "1\n") (bytes "0\n")
 change_line needs dels k n d en ed =
     (λ i. spell_effect (record { variable = k; before = cond (sym en i) (some 0) none; after = cond (sym ed i) 1 0 })) ∙ change_words k n d
 
@@ -50,9 +49,6 @@ list_lines Holds n s = ap concat (map_map spell_setting (λ k. set k 0) (members
 list_lines (Changes needs dels) n s =
     ap concat (map_map spell_effect (fact_effect (set_of needs) (set_of dels)) (members_of n s)) ∙ concat_members (fact_line (Changes needs dels)) n s
 
--- Room for k lines, and for one more of n.
+-- Room for k lines, and for one more.
 pub lines_more : (w k : ℕ) → w * (k + 1) ≡ w * k + w
 lines_more w k = rw (add-one k) (mul-suc w k)
-
-pub lines_fit : (w k n : ℕ) → k < n → w * k + w ≤ w * n
-lines_fit w k n l = omega (arith, lines_more w k, mul-le-mul_left {m = k + 1} {n = n} w (omega arith))

@@ -1,7 +1,6 @@
 -- The lines of the facts of a set, and the bytes that they take.
-use Rattle.std.specs.Prelude.{ℕ, ◌*◌, Bool, cond, List, [], map}
+use Rattle.std.specs.Prelude.{ℕ, ◌*◌, cond, List, [], map}
 use Rattle.basics.specs.Lists.{concat}
-use Rattle.basics.specs.Texts.{bytes}
 use Rattle.version3.specs.Spelling.{spell_setting, spell_effect}
 use Rattle.rules.specs.Limits.{most_facts}
 use Rattle.rules.specs.Facts.{has, members_of}
@@ -42,10 +41,3 @@ line_bytes (Changes needs dels) = change_bytes
 
 abbrev pub list_bytes : Says → ℕ
 list_bytes says = line_bytes says * most_facts
-
--- The value before and the value after, as a line has them.
-abbrev pub before_bytes : Bool → List ℕ
-before_bytes needed = cond needed (bytes " 0 ") (bytes " -1 ")
-
-abbrev pub after_bytes : Bool → List ℕ
-after_bytes deleted = cond deleted (bytes "1\n") (bytes "0\n")

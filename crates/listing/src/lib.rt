@@ -1,13 +1,13 @@
 // The lines of the facts of a set. No other writer walks over a set.
 #![tactic(auto)]
 
-ghost use Rattle.std.specs.Prelude.{◌+◌, ◌≤◌, ◌<◌};
+ghost use Rattle.std.specs.Prelude.{cond, ◌+◌, ◌≤◌, ◌<◌, max, length};
 ghost use Rattle.version3.specs.Spelling.{spell_setting, spell_effect};
 ghost use Rattle.rules.specs.Limits.{most_facts};
 ghost use Rattle.rules.specs.Problems.{set, fact_effect};
 ghost use Rattle.facts.specs.Sets.{set_of};
 ghost use Rattle.text.specs.Puts.{Puts, farthest};
-ghost use Rattle.listing.specs.Listings.{hold_bytes, change_bytes, before_bytes, after_bytes, line_where, list_text, line_bytes, list_bytes};
+ghost use Rattle.listing.specs.Listings.{hold_bytes, change_bytes, line_where, list_text, line_bytes, list_bytes};
 
 use facts::Set;
 
@@ -28,39 +28,27 @@ fn put_holds(out: &mut [u8], at: usize, k: u64) -> usize
     text::put(out, next, b" 0\n")
 }
 
-// The value before: a needed fact holds, of any other nothing is said.
-fn put_before(out: &mut [u8], at: usize, needed: bool) -> usize
-    requires { at + 4 ≤ farthest }
-    ensures puts { Puts out.old at (before_bytes needed) out.new result }
-    ensures upper_bound { result ≤ at + 4 }
+// One of two texts.
+fn put_either(out: &mut [u8], at: usize, first: bool, one: &[u8], other: &[u8]) -> usize
+    requires { at + max (length one.now) (length other.now) ≤ farthest }
+    ensures puts { Puts out.old at (cond first one.now other.now) out.new result }
+    ensures upper_bound { result ≤ at + max (length one.now) (length other.now) }
 {
-    if needed {
-        return text::put(out, at, b" 0 ");
+    if first {
+        return text::put(out, at, one);
     }
-    text::put(out, at, b" -1 ")
+    text::put(out, at, other)
 }
 
-// The value after: a deleted fact no longer holds, an added one does.
-fn put_after(out: &mut [u8], at: usize, deleted: bool) -> usize
-    requires { at + 2 ≤ farthest }
-    ensures puts { Puts out.old at (after_bytes deleted) out.new result }
-    ensures upper_bound { result ≤ at + 2 }
-{
-    if deleted {
-        return text::put(out, at, b"1\n");
-    }
-    text::put(out, at, b"0\n")
-}
-
-// How fact k changes.
+// How fact k changes. Before: a needed fact holds, of any other nothing is said. After: a deleted fact no longer holds, an added one does.
 fn put_change(out: &mut [u8], at: usize, needs: Set, dels: Set, k: u64) -> usize
     requires { (at + change_bytes ≤ farthest) × (k < most_facts) }
     ensures puts { Puts out.old at (spell_effect (fact_effect (set_of needs) (set_of dels) k)) out.new result }
     ensures upper_bound { result ≤ at + change_bytes }
 {
     let value = text::put_field(out, at, b"0 ", k);
-    let next = put_before(out, value, facts::has(needs, k));
-    put_after(out, next, facts::has(dels, k))
+    let next = put_either(out, value, facts::has(needs, k), b" 0 ", b" -1 ");
+    put_either(out, next, facts::has(dels, k), b"1\n", b"0\n")
 }
 
 // The line of fact k, where the set has it.

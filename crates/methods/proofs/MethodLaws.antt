@@ -19,9 +19,9 @@ use Rattle.laws.proofs.StoreLaws.{held, kept, below, kept_less}
 use Rattle.laws.proofs.ListLaws.{rows_length, rows_at, rows_same}
 use Rattle.laws.proofs.NumberLaws.{ranged_got}
 use Rattle.laws.proofs.TableLaws.{each, many_all}
-use Rattle.numbers.specs.Answers.{onward_of}
-use Rattle.numbers.specs.declared.Onward.{Onward}
-use Rattle.numbers.specs.declared.Onward.TheVariants.{To, Bad}
+use Rattle.std.proofs.Common.{Result, Ok, Err}
+use Rattle.basics.specs.declared.Refusal.{Refusal}
+use Rattle.basics.specs.Readings.{onward_of}
 
 -- A word that is stored after j others.
 pub cell_stored : (w : List ℕ) (b j v : ℕ) → b + j < length w → cell_of b (set w (b + j) v) j ≡ v
@@ -67,10 +67,10 @@ method_kept s lo hi from w w' k e q j l =
     λ i. record { head = at b (omega arith) i; subs = d i }
 
 -- What a step says, carried on.
-step_map : {A B : Type 0} (f : A → B) (r : Onward) (a : A) → then (onward_of r a) (λ x at. got (f x) at) ≡ onward_of r (f a)
-step_map f (To at) a = refl
-step_map f (Bad why at) a = refl
+step_map : {A B : Type 0} (f : A → B) (r : Result ℕ Refusal) (a : A) → then (onward_of r a) (λ x at. got (f x) at) ≡ onward_of r (f a)
+step_map f (Ok at) a = refl
+step_map f (Err e) a = refl
 
-pub method_got : (s : List ℕ) (lo hi at : ℕ) {head n next from : ℕ} (r : Onward) (xs : List ℕ) → ranged s lo hi not_there at ≡ got head next → ranged s 0 most_subtasks out_of_range next ≡ got n from → onward_of r xs ≡ many (ranged s 0 hi not_there) n from → read_method s lo hi at ≡ onward_of r (record { head = head; subs = xs })
+pub method_got : (s : List ℕ) (lo hi at : ℕ) {head n next from : ℕ} (r : Result ℕ Refusal) (xs : List ℕ) → ranged s lo hi not_there at ≡ got head next → ranged s 0 most_subtasks out_of_range next ≡ got n from → onward_of r xs ≡ many (ranged s 0 hi not_there) n from → read_method s lo hi at ≡ onward_of r (record { head = head; subs = xs })
 unfolding read_method
 method_got s lo hi at {head} r xs e f g = rw (e, f, ← g) (step_map {B = Method} (λ ys. record { head = head; subs = ys }) r xs)

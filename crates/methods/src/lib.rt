@@ -10,68 +10,67 @@ ghost use Rattle.rules.specs.Tables.{read_method};
 ghost use Rattle.words.specs.Words.{per_method, first_method, cell_of, method_at, method_of};
 ghost use Rattle.numbers.specs.Answers.{Reads};
 
-use numbers::{Num, Onward, field};
+use basics::Refusal;
+use numbers::field;
+use rules::Reason;
 use rules::limits::MOST_SUBTASKS;
-use rules::reasons::{NOT_THERE, OUT_OF_RANGE};
 use words::{FIRST_METHOD, PER_METHOD};
 
 // n subtasks in the words from b on.
-fn read_subtasks(s: &[u8], at: usize, words: &mut [u64], b: usize, n: usize, hi: u64) -> Onward
+fn read_subtasks(
+    s: &[u8],
+    at: usize,
+    words: &mut [u64],
+    b: usize,
+    n: usize,
+    hi: u64,
+) -> Result<usize, Refusal>
     requires { b + n ≤ length words.old }
     ensures { Reads result (rows (cell_of b words.new) n) (many (ranged s.now 0 hi not_there) n at) b words.old words.new }
 {
-    let mut j: usize = 0;
     let mut p = at;
-    while j < n {
-        match field(s, p, 0, hi, NOT_THERE) {
-            Num::Bad(why, q) => {
-                return Onward::Bad(why, q);
-            }
-            Num::Got(v, next) => {
-                words[b + j] = v;
-                p = next;
-                j += 1;
-            }
-        }
+    for j in 0..n {
+        let (task, next) = field(s, p, 0, hi, Reason::NotThere as u64)?;
+        words[b + j] = task;
+        p = next;
     }
-    Onward::To(p)
+    Ok(p)
 }
 
 // One method in the words from b on: head, count, subtasks.
-fn read_method(s: &[u8], at: usize, words: &mut [u64], b: usize, lo: u64, hi: u64) -> Onward
+fn read_method(
+    s: &[u8],
+    at: usize,
+    words: &mut [u64],
+    b: usize,
+    lo: u64,
+    hi: u64,
+) -> Result<usize, Refusal>
     requires { b + per_method ≤ length words.old }
     ensures { Reads result (method_at words.new b) (read_method s.now lo hi at) b words.old words.new }
 {
-    match field(s, at, lo, hi, NOT_THERE) {
-        Num::Bad(why, p) => Onward::Bad(why, p),
-        Num::Got(head, p1) => match field(s, p1, 0, MOST_SUBTASKS, OUT_OF_RANGE) {
-            Num::Bad(why, p) => Onward::Bad(why, p),
-            Num::Got(n, p2) => {
-                words[b] = head;
-                words[b + 1] = n;
-                read_subtasks(s, p2, words, b + 2, n as usize, hi)
-            }
-        },
-    }
+    let (head, at) = field(s, at, lo, hi, Reason::NotThere as u64)?;
+    let (n, at) = field(s, at, 0, MOST_SUBTASKS, Reason::OutOfRange as u64)?;
+    words[b] = head;
+    words[b + 1] = n;
+    read_subtasks(s, at, words, b + 2, n as usize, hi)
 }
 
 // The methods, in the words behind all actions.
-pub fn read_methods(s: &[u8], at: usize, words: &mut [u64], n: usize, lo: u64, hi: u64) -> Onward
+pub fn read_methods(
+    s: &[u8],
+    at: usize,
+    words: &mut [u64],
+    n: usize,
+    lo: u64,
+    hi: u64,
+) -> Result<usize, Refusal>
     requires { first_method + per_method * n ≤ length words.old }
     ensures { Reads result (rows (method_of words.new) n) (many (read_method s.now lo hi) n at) first_method words.old words.new }
 {
-    let mut k: usize = 0;
     let mut p = at;
-    while k < n {
-        match read_method(s, p, words, FIRST_METHOD + PER_METHOD * k, lo, hi) {
-            Onward::Bad(why, q) => {
-                return Onward::Bad(why, q);
-            }
-            Onward::To(next) => {
-                p = next;
-                k += 1;
-            }
-        }
+    for k in 0..n {
+        p = read_method(s, p, words, FIRST_METHOD + PER_METHOD * k, lo, hi)?;
     }
-    Onward::To(p)
+    Ok(p)
 }

@@ -1,19 +1,16 @@
 -- The texts that a chain of writers leaves are the middle section's.
 use mathlib.Core.Path.{◌≡◌, ap, ap₂, ◌∙◌}
-use mathlib.Core.Bool.{Bool, true, false, cond}
 use mathlib.Core.List.{List, [], ◌∷◌, ◌++◌, append-nil, append_assoc, map, map-append}
-use Prim.Native.Nat.{ℕ, ◌+◌, ◌≤◌, ◌<◌, ◌^◌}
+use Prim.Native.Nat.{ℕ, ◌+◌, ◌<◌, ◌^◌}
 use native.Mathlib.Omega.{arith}
-use borrow.Author.Tests.{lt-ltb, le-ltb, eq-eqb, ne_eqb}
 use lib.Count.{ones}
-use lib.Dec.{ltb, eqb}
 use lib.Pow.{pow_pos}
 use lib.ListN.{length, length-append, length-map}
 use Rattle.basics.specs.Lists.{upto, concat}
 use Rattle.basics.specs.Texts.{bytes, digits, digits_f}
 use Rattle.version3.specs.Spelling.{number_line, counted, spell_setting, middle}
-use Rattle.rules.specs.Tables.{Table, fact_count, task_count, start_task, start_facts, goal_facts}
-use Rattle.rules.specs.Facts.{has, members_of}
+use Rattle.rules.specs.Tables.{Table, fact_count, goal_facts}
+use Rattle.rules.specs.Facts.{members_of}
 use Rattle.rules.specs.Operators.{operators_of}
 use Rattle.rules.specs.Problems.{variable_count, start_value, set, holding, goal_of, oper_of, problem_of}
 use Rattle.laws.specs.Valid.{Valid}
@@ -24,30 +21,6 @@ use Rattle.variables.specs.Variables.{labelled}
 use Rattle.middle.specs.Middles.{start_line, state_text, goal_text}
 
 -- ---- state
-
-module _ (t : Table) (v : ℕ) where
-  pub start_fact : v < fact_count t → start_value t v ≡ cond (has (start_facts t) v) 0 1
-  start_fact l = rw (lt-ltb v (fact_count t) l)
-
-  pub start_top : v ≡ fact_count t → start_value t v ≡ 1
-  start_top e = rw (le-ltb v (fact_count t) (omega arith), eq-eqb v (fact_count t) e)
-
-  pub start_first : v ≡ fact_count t + 1 → start_value t v ≡ start_task t
-  start_first e = rw (le-ltb v (fact_count t) (omega arith), ne_eqb v (fact_count t) (λ z. omega arith), eq-eqb v (fact_count t + 1) e)
-
-  pub start_other : fact_count t + 1 < v → start_value t v ≡ task_count t
-  start_other l = rw (le-ltb v (fact_count t) (omega arith), ne_eqb v (fact_count t) (λ z. omega arith), ne_eqb v (fact_count t + 1) (λ z. omega arith))
-
--- No value is above that of a position with no task.
-pub start_low : (t : Table) (v : ℕ) → Valid t → start_value t v ≤ task_count t
-start_low t v h = go (ltb v (fact_count t)) (has (start_facts t) v) (eqb v (fact_count t)) (eqb v (fact_count t + 1))
-  where
-    go : (a b c d : Bool) → cond a (cond b 0 1) (cond c 1 (cond d (start_task t) (task_count t))) ≤ task_count t
-    go true true c d = omega arith
-    go true false c d = omega (arith, h.head.abstracts)
-    go false b true d = omega (arith, h.head.abstracts)
-    go false b false true = omega (arith, h.head.start_high)
-    go false b false false = omega arith
 
 pub state_lines : (b : ℕ) (t : Table) → state_text b t ≡ bytes "0\nbegin_state\n" ++ upto (start_line t) (variable_count b t) ++ bytes "end_state\n"
 unfolding state_text

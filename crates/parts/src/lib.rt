@@ -6,13 +6,14 @@ ghost use Rattle.basics.specs.Lists.{upto};
 ghost use Rattle.rules.specs.Limits.{most_bound, most_actions, most_methods};
 ghost use Rattle.rules.specs.Problems.{variable_count};
 ghost use Rattle.laws.specs.Steps.{variable_text, front_text};
-ghost use Rattle.words.specs.Words.{table_of, Held};
+ghost use Rattle.words.specs.Words.{table_of};
 ghost use Rattle.text.specs.Appends.{Appends};
 ghost use Rattle.report.specs.Parts.{Moves, Says};
 ghost use Rattle.parts.specs.Pieces.{step_count, problem_piece, Ready};
 ghost use Rattle.parts.specs.Sizes.{variables_bytes, front_bytes, step_space, part_bytes};
 
 use report::Part;
+use words::Words;
 
 // Sizes, with the names that specs/Sizes has for them.
 const STEP_SPACE: usize = template::STEP_TEXT_BYTES + template::MARGIN;
@@ -28,16 +29,16 @@ pub fn space() -> [u8; PART_BYTES]
 
 // The next part.
 pub fn put_problem(
-    words: &[u64],
+    words: Words,
     bound: u64,
     form: u64,
     figures: &[u8],
     next: usize,
     out: &mut [u8],
 ) -> Part
-    requires { Ready bound words.now figures.now × (part_bytes ≤ length out.old) × (next < step_count (table_of words.now) + 2) }
-    ensures says { Says (problem_piece bound form (table_of words.now)) next out.new result }
-    ensures moves { Moves (step_count (table_of words.now) + 2) next out.new result }
+    requires { Ready bound words.all.now figures.now × (part_bytes ≤ length out.old) × (next < step_count (table_of words.all.now) + 2) }
+    ensures says { Says (problem_piece bound form (table_of words.entry.all.now)) next out.new result }
+    ensures moves { Moves (step_count (table_of words.entry.all.now) + 2) next out.new result }
     ensures out_len_unchanged { length out.new ≡ length out.old }
 {
     if next == 0 {
@@ -52,17 +53,16 @@ pub fn put_problem(
     report::part_of(steps + 2, size)
 }
 
-pub fn step_count(words: &[u64]) -> usize
-    requires { Held words.now }
-    ensures value { result ≡ step_count (table_of words.now) }
+pub fn step_count(words: Words) -> usize
+    ensures value { result ≡ step_count (table_of words.entry.all.now) }
     ensures upper_bound { result ≤ most_actions + most_methods }
 {
-    words::action_count(words) as usize + words::method_count(words)
+    words.action_count() as usize + words.method_count()
 }
 
-fn put_variables(words: &[u64], bound: u64, out: &mut [u8], at: usize) -> usize
-    requires { Held words.now × (bound ≤ most_bound) × (at + variables_bytes ≤ length out.old) }
-    ensures appends { Appends out.old at (upto (variable_text bound (table_of words.now)) (variable_count bound (table_of words.now))) out.new result }
+fn put_variables(words: Words, bound: u64, out: &mut [u8], at: usize) -> usize
+    requires { (bound ≤ most_bound) × (at + variables_bytes ≤ length out.old) }
+    ensures appends { Appends out.old at (upto (variable_text bound (table_of words.entry.all.now)) (variable_count bound (table_of words.entry.all.now))) out.new result }
     ensures upper_bound { result ≤ at + variables_bytes }
 {
     let variables = problem::variable_count(words, bound);
@@ -74,9 +74,9 @@ fn put_variables(words: &[u64], bound: u64, out: &mut [u8], at: usize) -> usize
 }
 
 // The sections before the operators.
-fn put_front(words: &[u64], bound: u64, form: u64, out: &mut [u8]) -> usize
-    requires { Held words.now × (bound ≤ most_bound) × (front_bytes ≤ length out.old) }
-    ensures appends { Appends out.old 0 (front_text bound form (table_of words.now)) out.new result }
+fn put_front(words: Words, bound: u64, form: u64, out: &mut [u8]) -> usize
+    requires { (bound ≤ most_bound) × (front_bytes ≤ length out.old) }
+    ensures appends { Appends out.old 0 (front_text bound form (table_of words.entry.all.now)) out.new result }
     ensures upper_bound { result ≤ front_bytes }
 {
     let first = variables::put_preamble(words, bound, out, 0);
@@ -85,22 +85,20 @@ fn put_front(words: &[u64], bound: u64, form: u64, out: &mut [u8]) -> usize
 }
 
 // The operators from a piece on, of as many steps as there is room for.
-fn fill(words: &[u64], bound: u64, form: u64, figures: &[u8], from: usize, out: &mut [u8]) -> Part
-    requires { Ready bound words.now figures.now × (step_space ≤ length out.old) × (1 ≤ from) × (from ≤ step_count (table_of words.now)) }
-    ensures says { Says (problem_piece bound form (table_of words.now)) from out.new result }
-    ensures moves { Moves (step_count (table_of words.now) + 1) from out.new result }
+fn fill(words: Words, bound: u64, form: u64, figures: &[u8], from: usize, out: &mut [u8]) -> Part
+    requires { Ready bound words.all.now figures.now × (step_space ≤ length out.old) × (1 ≤ from) × (from ≤ step_count (table_of words.all.now)) }
+    ensures says { Says (problem_piece bound form (table_of words.entry.all.now)) from out.new result }
+    ensures moves { Moves (step_count (table_of words.entry.all.now) + 1) from out.new result }
     ensures out_len_unchanged { length out.new ≡ length out.old }
 {
     let steps = step_count(words);
     let room = out.len() - STEP_SPACE;
-    let mut next = from;
     let mut size = 0;
-    while next <= steps {
+    for next in from..steps + 1 {
         if room < size {
             return report::part_of(next, size);
         }
         size = step_text::put_operators(words, bound, form, next - 1, figures, out, size);
-        next += 1;
     }
-    report::part_of(next, size)
+    report::part_of(steps + 1, size)
 }

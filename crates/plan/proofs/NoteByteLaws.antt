@@ -4,10 +4,11 @@ use mathlib.Core.Path.{◌≡◌, sym, ap, ◌∙◌}
 use mathlib.Core.List.{List}
 use native.Mathlib.Omega.{arith}
 use lib.ListN.{length, take}
-use lib.Seq.{sets, length-take-le}
+use lib.Seq.{sets}
+use Rattle.std.specs.Prelude.{Ok, Err}
+use Rattle.basics.specs.declared.Refusal.{Refusal}
 use Rattle.basics.specs.Answers.{Answer, after}
-use Rattle.rules.specs.declared.Verdict.{Verdict}
-use Rattle.rules.specs.declared.Verdict.TheVariants.{Accepted, Refused}
+use Rattle.rules.specs.declared.Tally.{Tally as TallyInCode}
 use Rattle.rules.specs.Tables.{Table}
 use Rattle.rules.specs.Progression.{Step}
 use Rattle.rules.specs.Operators.{expand_all}
@@ -27,9 +28,6 @@ module _ {f : ℕ} {t : Table} {notes : List ℕ} {operators steps : ℕ} (h : N
   pub notes_long : length the_bytes ≡ 2 * steps
   notes_long = bytes_length (rows_steps f t (take operators notes)) ∙ ap (λ (n : ℕ). 2 * n) h.count
 
-  pub notes_taken : operators ≡ length (take operators notes)
-  notes_taken = sym (length-take-le operators notes h.few)
-
   pub notes_kept : (old : List ℕ) → length old < 2 * steps → old ≡ written old 0 (room_for (length old) 0 the_bytes)
   unfolding written
   notes_kept old l = sym (ap (written old 0) (room_short (length old) 0 the_bytes (omega (arith, notes_long))))
@@ -40,10 +38,15 @@ module _ {f : ℕ} {t : Table} {notes : List ℕ} {operators steps : ℕ} (h : N
       ∙ ap (written old 0) (sym (room_fits (length old) 0 the_bytes (omega (arith, notes_long))))
 
 -- They are those of the plan's lines.
-pub notes_given : (b f : ℕ) (t : Table) (text notes : List ℕ) (r : Verdict) → verdict_of r ≡ check_lines b f t (lines_of text) → NotesExpand f t (lines_of text) notes r
-    → (size : ℕ) → note_bytes f t notes r size ≡ steps_for b f t text size
-notes_given b f t text notes (Accepted cost operators steps) e h size =
-    ap (λ (xs : List Step). room_for size 0 (step_bytes xs)) h
-    ∙ ap (λ (a : Answer Tally). after a (λ _. room_for size 0 (step_bytes (expand_all f t (opers_of (lines_of text)))))) e
-notes_given b f t text notes (Refused number place) e h size =
-    ap (λ (a : Answer Tally). after a (λ _. room_for size 0 (step_bytes (expand_all f t (opers_of (lines_of text)))))) e
+module _ (b f : ℕ) (t : Table) (text : List ℕ) where
+  abbrev given : ℕ → Answer Tally → Answer (List ℕ)
+  given size verdict = after verdict (λ _. room_for size 0 (step_bytes (expand_all f t (opers_of (lines_of text)))))
+
+  pub notes_given : (notes : List ℕ) (y : TallyInCode) → verdict_of (Ok y) ≡ check_lines b f t (lines_of text) → NotesExpand f t (lines_of text) notes (Ok y)
+      → (size : ℕ) → note_bytes f t notes y.operators size ≡ steps_for b f t text size
+  notes_given notes y e h size = ap (λ (xs : List Step). room_for size 0 (step_bytes xs)) h ∙ ap (given size) e
+
+  -- A refused plan's are not written.
+  pub none_given : (e : Refusal) → verdict_of (Err e) ≡ check_lines b f t (lines_of text) → (old : List ℕ) → old ≡ written old 0 (steps_for b f t text (length old))
+  unfolding written
+  none_given e q old = ap (λ (a : Answer Tally). written old 0 (given (length old) a)) q

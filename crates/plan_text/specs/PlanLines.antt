@@ -1,10 +1,7 @@
 -- The lines of a plan, and the bytes that they take.
-use Rattle.std.specs.Prelude.{ℕ, ◌<◌, List, [], ◌∷◌, ◌++◌}
-use Rattle.rules.specs.Tables.{Table}
+use Rattle.std.specs.Prelude.{ℕ, List, [], ◌∷◌, ◌++◌}
 use Rattle.rules.specs.Operators.{Operator}
 use Rattle.rules.specs.Plans.{text_of}
-use Rattle.theorems.specs.Shapes.{Small}
-use Rattle.trail.specs.Trails.{operator_in}
 
 -- An operator's text and its line feed.
 abbrev pub line_text : Operator → List ℕ
@@ -17,7 +14,3 @@ name_bytes = 5
 
 abbrev pub line_bytes : ℕ
 line_bytes = 11
-
--- The numbers of the first n operators of a trail have at most three digits.
-abbrev pub EachSmall : Table → List ℕ → ℕ → Type 0
-EachSmall t trail n = (i : ℕ) → i < n → Small (operator_in t trail i)

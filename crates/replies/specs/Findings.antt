@@ -1,9 +1,9 @@
 -- What the code's answer says of a plan found: the length of its text, and how many operators were applied.
-use Rattle.std.specs.Prelude.{ℕ}
-use Rattle.basics.specs.Answers.{Answer, answer, refusal, after, mapped}
+use Rattle.std.specs.Prelude.{ℕ, Result}
+use Rattle.basics.specs.declared.Refusal.{Refusal}
+use Rattle.basics.specs.Answers.{Answer, answer, answer_of, after, mapped}
 use Rattle.rules.specs.Refusals.{Sought, plan_bytes, room_of}
-use Rattle.replies.specs.declared.Finding.{Finding}
-use Rattle.replies.specs.declared.Finding.TheVariants.{Plan, Refused}
+use Rattle.replies.specs.declared.Found.{Found}
 
 pub record Figures : Type 0 where
   pub bytes : ℕ
@@ -16,9 +16,11 @@ bytes_in y = y.bytes
 abbrev pub applied_of : Figures → ℕ
 applied_of y = y.applied
 
-abbrev pub found_of : Finding → Answer Figures
-found_of (Plan bytes applied) = answer (record { bytes = bytes; applied = applied })
-found_of (Refused number place) = refusal number place
+abbrev pub figures_in : Found → Figures
+figures_in y = record { bytes = y.bytes; applied = y.applied }
+
+abbrev pub found_of : Result Found Refusal → Answer Figures
+found_of r = answer_of figures_in r
 
 abbrev pub figures_of : Sought → Figures
 figures_of y = record { bytes = plan_bytes y; applied = y.applied }

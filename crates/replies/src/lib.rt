@@ -1,90 +1,72 @@
-// The numbers of a reply, of a verdict and of a finding, one at a time.
+// The numbers of an answer, one at a time: with a refusal every number but its own two is 0.
 #![tactic(auto)]
 
 ghost use Rattle.std.specs.Prelude.{◌≡◌};
-ghost use Rattle.basics.specs.Answers.{number_of, place_of, value_of, reply_of, itself};
+ghost use Rattle.basics.specs.Answers.{number_of, place_of, value_of, reply_of, answer_of, itself};
 ghost use Rattle.rules.specs.Checks.{verdict_of, cost_of, operators_in, steps_in};
+ghost use Rattle.replies.specs.Findings.{found_of, bytes_in, applied_of};
 
-use basics::Reply;
-use rules::Verdict;
+use basics::Refusal;
+use rules::Tally;
 
-pub mod findings;
-
-// How many bytes the text of the plan found takes, and how many operators were applied; or a refusal's number and place.
+// A plan found: how many bytes its text takes, and how many operators were applied for it.
 #[derive(Clone, Copy)]
-pub enum Finding {
-    Plan(u64, u64),
-    Refused(u64, u64),
+pub struct Found {
+    pub bytes: u64,
+    pub applied: u64,
 }
 
-pub fn number(reply: Reply) -> u64
-    ensures { result ≡ number_of (reply_of reply) }
+// Whatever the result is.
+pub fn number<T: Copy>(answer: Result<T, Refusal>) -> u64
+    ensures { result ≡ number_of (answer_of (λ x. x) answer) }
 {
-    match reply {
-        Reply::Value(_) => 0,
-        Reply::Refused(number, _) => number,
+    match answer {
+        Ok(_) => 0,
+        Err(refusal) => refusal.number,
     }
 }
 
-pub fn place(reply: Reply) -> u64
-    ensures { result ≡ place_of (reply_of reply) }
+pub fn place<T: Copy>(answer: Result<T, Refusal>) -> u64
+    ensures { result ≡ place_of (answer_of (λ x. x) answer) }
 {
-    match reply {
-        Reply::Value(_) => 0,
-        Reply::Refused(_, place) => place,
+    match answer {
+        Ok(_) => 0,
+        Err(refusal) => refusal.place,
     }
 }
 
-pub fn value(reply: Reply) -> u64
+pub fn value(reply: Result<u64, Refusal>) -> u64
     ensures { result ≡ value_of itself (reply_of reply) }
 {
-    match reply {
-        Reply::Value(value) => value,
-        Reply::Refused(_, _) => 0,
-    }
+    reply.unwrap_or(0)
 }
 
-pub fn verdict_number(verdict: Verdict) -> u64
-    ensures { result ≡ number_of (verdict_of verdict) }
-{
-    match verdict {
-        Verdict::Accepted(_, _, _) => 0,
-        Verdict::Refused(number, _) => number,
-    }
-}
-
-pub fn verdict_place(verdict: Verdict) -> u64
-    ensures { result ≡ place_of (verdict_of verdict) }
-{
-    match verdict {
-        Verdict::Accepted(_, _, _) => 0,
-        Verdict::Refused(_, place) => place,
-    }
-}
-
-pub fn verdict_cost(verdict: Verdict) -> u64
+pub fn cost(verdict: Result<Tally, Refusal>) -> u64
     ensures { result ≡ value_of cost_of (verdict_of verdict) }
 {
-    match verdict {
-        Verdict::Accepted(cost, _, _) => cost,
-        Verdict::Refused(_, _) => 0,
-    }
+    verdict.map_or(0, |tally| tally.cost)
 }
 
-pub fn verdict_operators(verdict: Verdict) -> u64
+pub fn operators(verdict: Result<Tally, Refusal>) -> u64
     ensures { result ≡ value_of operators_in (verdict_of verdict) }
 {
-    match verdict {
-        Verdict::Accepted(_, operators, _) => operators,
-        Verdict::Refused(_, _) => 0,
-    }
+    verdict.map_or(0, |tally| tally.operators)
 }
 
-pub fn verdict_steps(verdict: Verdict) -> u64
+pub fn steps(verdict: Result<Tally, Refusal>) -> u64
     ensures { result ≡ value_of steps_in (verdict_of verdict) }
 {
-    match verdict {
-        Verdict::Accepted(_, _, steps) => steps,
-        Verdict::Refused(_, _) => 0,
-    }
+    verdict.map_or(0, |tally| tally.steps)
+}
+
+pub fn bytes(finding: Result<Found, Refusal>) -> u64
+    ensures { result ≡ value_of bytes_in (found_of finding) }
+{
+    finding.map_or(0, |found| found.bytes)
+}
+
+pub fn applied(finding: Result<Found, Refusal>) -> u64
+    ensures { result ≡ value_of applied_of (found_of finding) }
+{
+    finding.map_or(0, |found| found.applied)
 }

@@ -1,14 +1,14 @@
 -- An input that is longer than what is read of it gets the same answer as what is read of it.
-use Prim.Native.Nat.{ℕ, zero, suc, ◌+◌, ◌*◌, ◌-◌, ◌≤◌, ◌<◌}
+use Prim.Native.Nat.{ℕ, ◌+◌, ◌*◌, ◌-◌, ◌≤◌, ◌<◌}
 use mathlib.Core.Path.{◌≡◌, refl, sym, ap, ap₂, ◌∙◌}
 use mathlib.Core.Bool.{◌&&◌}
-use mathlib.Core.List.{List, [], ◌∷◌}
+use mathlib.Core.List.{List}
 use native.Mathlib.Decide.{dec_le}
-use native.Mathlib.Nat.{zero-add, suc-add}
 use native.Mathlib.Omega.{arith}
 use lib.Dec.{leb}
 use lib.ListN.{length, take, drop, length-drop}
-use lib.Seq.{take_all, take-nil, take-take, length-take-le, get_or-take}
+use lib.Seq.{take_all, take-take, length-take-le, get_or-take}
+use Rattle.std.proofs.lemmas.List.{drop-take}
 use Rattle.basics.specs.Answers.{Answer, answer, refusal, after}
 use Rattle.rules.specs.Limits.{most_bound, most_table_bytes, most_plan_bytes}
 use Rattle.rules.specs.Reasons.{bad_bound, bad_form, table_too_long, plan_too_long}
@@ -24,14 +24,9 @@ use Rattle.theorems.proofs.Demand3.{opened_given}
 use Rattle.report.specs.declared.Input.{Input}
 use Rattle.report.specs.Inputs.{most_size, most_check_input, most_emit_input, most_find_input, count_of, ReadFrom}
 
-drop_cut : (a n : ℕ) (l : List ℕ) → drop a (take (a + n) l) ≡ take n (drop a l)
-drop_cut zero n l = ap (λ (k : ℕ). take k l) (zero-add n)
-drop_cut (suc a) n [] = ap (drop (suc a)) (take-nil (suc a + n)) ∙ sym (take-nil n)
-drop_cut (suc a) n (x ∷ l) = ap (λ (k : ℕ). drop (suc a) (take k (x ∷ l))) (suc-add a n) ∙ drop_cut a n l
-
 -- A part that is taken from what is left after a cut further on.
 cut_later : (a n : ℕ) (l : List ℕ) → a ≤ n → drop a (take n l) ≡ take (n - a) (drop a l)
-cut_later a n l h = let e : n ≡ a + (n - a) = omega arith in ap (λ (k : ℕ). drop a (take k l)) e ∙ drop_cut a (n - a) l
+cut_later a n l h = let e : n ≡ a + (n - a) = omega arith in ap (λ (k : ℕ). drop a (take k l)) e ∙ drop-take a (n - a) l
 
 -- What comes after a refusal is the same, whatever was to come.
 same_refused : {A B : Type 0} (x : Answer A) → ((a : A) → x ≡ answer a → ⊥) → (g h : A → Answer B) → after x g ≡ after x h

@@ -1,5 +1,4 @@
 mod ReportLaws
-pub mod InputLaws
 pub mod CutLaws
 pub mod PartLaws
 mod ReadLaws

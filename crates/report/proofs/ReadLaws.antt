@@ -1,7 +1,7 @@
 -- What reads one after the other have taken from a reader, whose bytes may be known.
 use Prim.Native.Nat.{ℕ, ◌+◌, ◌-◌, ◌≤◌}
-use mathlib.Core.Path.{◌≡◌, refl, sym, ap, ◌∙◌}
-use mathlib.Core.List.{List, [], ◌++◌, append_assoc}
+use mathlib.Core.Path.{◌≡◌, sym, ap, ◌∙◌}
+use mathlib.Core.List.{List, ◌++◌, append_assoc}
 use native.Mathlib.Omega.{arith}
 use borrow.Rule.Slice.PartMut.{put_mid, post_of, mid_of, same_len_mid}
 use Rattle.std.proofs.Math.ListN.{length, take, drop, length-drop}
@@ -10,11 +10,6 @@ use Rattle.std.proofs.lemmas.List.{take-append-le}
 use Rattle.std.specs.Prelude.{None, Some}
 use Rattle.std.specs.Io.KnownBytes.{Consumes}
 use Rattle.std.specs.declared.option.Option.{Option}
-
--- No byte yet, and some more.
-pub read_none : (old : Option (List ℕ)) → Consumes old old []
-read_none None = tt
-read_none (Some xs) = refl
 
 pub read_more : (old mid new : Option (List ℕ)) (a b : List ℕ) → Consumes old mid a → Consumes mid new b → Consumes old new (a ++ b)
 read_more None mid new a b h k = tt

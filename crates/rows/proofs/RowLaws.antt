@@ -1,49 +1,27 @@
 -- Rows that are stored one after the other, and what a step asks of each.
 use mathlib.Core.Path.{◌≡◌, refl, sym, ap, subst, ◌∙◌}
 use mathlib.Core.Bool.{Bool, true, false, cond}
-use mathlib.Core.List.{List, [], ◌∷◌, map}
+use mathlib.Core.List.{List, ◌∷◌, map}
 use Prim.Native.Nat.{ℕ, suc, ◌+◌, ◌-◌, ◌*◌, ◌≤◌, ◌<◌}
 use native.Mathlib.Decide.{dec_le}
 use native.Mathlib.Omega.{arith}
-use lib.Dec.{lit<}
-use lib.ListN.{length, get_or, set, take, drop}
-use lib.Seq.{sets}
+use lib.ListN.{length, get_or, take, drop}
 use Rattle.rules.specs.Limits.{most_bound, most_subtasks}
 use Rattle.rules.specs.Tables.{Action, Table, action_count, method_count, action, method}
 use Rattle.rules.specs.Facts.{Join, no_join, join_one, join_from, join_of}
 use Rattle.rules.specs.Progression.{act, mth, prefix, stays, total_cost}
 use Rattle.rules.specs.Operators.{positions, highest, joined, leaves}
 use Rattle.laws.specs.Valid.{Valid}
-use Rattle.laws.proofs.StoreLaws.{held, kept, below, kept_less}
+use Rattle.laws.proofs.StoreLaws.{below, kept_less}
 use Rattle.laws.proofs.CountLaws.{highest_low, action_positions, method_positions}
-use Rattle.rows.specs.Sizes.{row_words, row_cells, all_words, all_cells}
+use Rattle.rows.specs.Sizes.{row_words, row_cells}
 use Rattle.rows.specs.Stacks.{stack_of}
 use Rattle.rows.specs.Rows.{Row, row_of, row_at, Prepared, RowOk}
 use Rattle.laws.specs.Steps.{step_at}
-use Rattle.rows.specs.Stores.{PreparedTo, AllPrepared, Stored, SetsStored, Ended, RestStored}
-use Rattle.laws.proofs.StepNumbers.{step_action, step_method, by_step}
+use Rattle.rows.specs.Stores.{PreparedTo, Stored, SetsStored, Ended, RestStored}
+use Rattle.laws.proofs.StepNumbers.{by_step}
 use Rattle.laws.proofs.StepSizes.{stay_length, leaves_few, company_few, cost_low, height_low}
 use Rattle.rows.proofs.StackLaws.{stack_height, stack_kept}
-
--- Four cells that are stored.
-pub put_tail : (cells : List ℕ) (c task left steps last : ℕ) → c + 12 ≤ length cells → (cells' : List ℕ)
-    → cells' ≡ set (set (set (set cells (c + 8) task) (c + 9) left) (c + 10) steps) (c + 11) last → Ended c task left steps last cells cells'
-put_tail cells c task left steps last h cells' q =
-    let vs : List ℕ = task ∷ left ∷ steps ∷ last ∷ [] in
-    let p9 : c + 9 ≡ suc (c + 8) = omega arith in
-    let p10 : c + 10 ≡ suc (suc (c + 8)) = omega arith in
-    let p11 : c + 11 ≡ suc (suc (suc (c + 8))) = omega arith in
-    let e : cells' ≡ sets cells (c + 8) vs = q ∙ (λ i. set (set (set (set cells (c + 8) task) (p9 i) left) (p10 i) steps) (p11 i) last) in
-    let r : c + 8 + length vs ≤ length cells = omega arith in
-    let at : (i : ℕ) → i < 4 → get_or cells' (c + 8 + i) 0 ≡ get_or vs i 0 = λ i l. ap (λ (x : List ℕ). get_or x (c + 8 + i) 0) e ∙ held cells vs (c + 8) r i l in
-    let place : (m i : ℕ) → c + m ≡ c + 8 + i → get_or cells' (c + m) 0 ≡ get_or cells' (c + 8 + i) 0 = λ m i e. ap (λ (n : ℕ). get_or cells' n 0) e in
-    record {
-      kept = ap (take (c + 8)) e ∙ kept cells vs (c + 8) r;
-      task = place 8 0 (omega arith) ∙ at 0 (lit< tt);
-      left = place 9 1 (omega arith) ∙ at 1 (lit< tt);
-      steps = place 10 2 (omega arith) ∙ at 2 (lit< tt);
-      last = place 11 3 (omega arith) ∙ at 3 (lit< tt);
-    }
 
 -- The words of a row.
 abbrev sets_of : Row → Action
@@ -158,15 +136,6 @@ prepared_more b f t i words cells words' cells' v l p s j m = go (dec_le i j)
         let q = p j (omega arith) in
         let n = left_is words cells j (row_of b f t (step_at t j)) q in
         row_kept words cells words' cells' i j (omega arith) s.words_kept s.cells_kept (omega (arith, n, leaves_few f t v j (omega arith))) ∙ q
-
-pub prepared_all : (b f : ℕ) (t : Table) (words cells : List ℕ) → Valid t → all_words ≤ length words → all_cells ≤ length cells
-    → AllPrepared b f t words cells → Prepared b f t words cells
-prepared_all b f t words cells v w c p =
-    record {
-      fits = record { in_words = omega (arith, v.head.actions, v.head.methods); in_cells = omega (arith, v.head.actions, v.head.methods) };
-      actions = λ k l. p k (omega arith) ∙ ap (row_of b f t) (step_action t k l);
-      methods = λ k l. p (action_count t + k) (omega arith) ∙ ap (row_of b f t) (step_method t k);
-    }
 
 -- ---- what a step asks of a row
 

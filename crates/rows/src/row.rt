@@ -1,8 +1,8 @@
 // One row of an operator in memory: only this crate knows where its parts stand.
-ghost use Rattle.std.specs.Prelude.{◌≡◌, ◌+◌, ◌-◌, ◌≤◌, ◌<◌, length, get_or};
+ghost use Rattle.std.specs.Prelude.{◌≡◌, ◌*◌, ◌+◌, ◌-◌, ◌≤◌, ◌<◌, length, get_or};
 ghost use Rattle.rules.specs.Limits.{most_subtasks};
-ghost use Rattle.facts.specs.Sets.{set_of};
-ghost use Rattle.rows.specs.Sizes.{stack_cells};
+ghost use Rattle.facts.specs.Sets.{set_words, set_of, set_at};
+ghost use Rattle.rows.specs.Sizes.{row_words, row_cells, stack_cells};
 ghost use Rattle.rows.specs.Rows.{row_at, RowsFit, RowHeld, Pushed};
 
 use facts::Set;
@@ -24,98 +24,107 @@ pub const LAST_CELL: usize = TASK_CELL + 3;
 // A run's stack: above the highest bound there is room for the tasks that a row may leave.
 pub const STACK: usize = rules::limits::MOST_BOUND as usize + rules::limits::MOST_SUBTASKS as usize;
 
-// A cell as a number.
-pub fn wide(x: u16) -> u64
-    ensures { result ≡ x }
+// The set in a row's words, `at` words after its first.
+fn set(ops: &[u64], i: usize, at: usize) -> Set
+    requires { (row_words * (i + 1) ≤ length ops.now) × (at + set_words ≤ row_words) }
+    ensures { set_of result ≡ set_at ops.now (row_words * i + at) }
 {
-    x as u64
+    facts::get(ops, WORDS * i + at)
 }
 
-fn size(x: u16) -> usize
-    ensures { result ≡ x }
+// The number in a row's cells, `at` cells after its first.
+fn cell(cells: &[u16], i: usize, at: usize) -> u16
+    requires { (row_cells * (i + 1) ≤ length cells.now) × (at < row_cells) }
+    ensures { result ≡ get_or cells.now (row_cells * i + at) 0 }
 {
-    x as usize
+    cells[CELLS * i + at]
 }
 
-// The facts that it needs, adds and deletes.
-pub fn needs(ops: &[u64], cells: &[u16], i: usize) -> Set
-    requires { RowsFit (i + 1) ops.now cells.now }
-    ensures { set_of result ≡ (row_at ops.now cells.now i).needs }
-{
-    facts::get(ops, WORDS * i)
+// All rows of a table, or one: the words of their sets and costs, and their cells.
+#[derive(Clone, Copy)]
+pub struct Rows<'a> {
+    pub ops: &'a [u64],
+    pub cells: &'a [u16],
 }
 
-pub fn adds(ops: &[u64], cells: &[u16], i: usize) -> Set
-    requires { RowsFit (i + 1) ops.now cells.now }
-    ensures { set_of result ≡ (row_at ops.now cells.now i).adds }
-{
-    facts::get(ops, WORDS * i + facts::WORDS)
-}
+impl<'a> Rows<'a> {
+    // The facts that it needs, adds and deletes.
+    pub fn needs(self, i: usize) -> Set
+        requires { RowsFit (i + 1) self.ops.now self.cells.now }
+        ensures { set_of result ≡ (row_at self.entry.ops.now self.entry.cells.now i).needs }
+    {
+        set(self.ops, i, 0)
+    }
 
-pub fn dels(ops: &[u64], cells: &[u16], i: usize) -> Set
-    requires { RowsFit (i + 1) ops.now cells.now }
-    ensures { set_of result ≡ (row_at ops.now cells.now i).dels }
-{
-    facts::get(ops, WORDS * i + 2 * facts::WORDS)
-}
+    pub fn adds(self, i: usize) -> Set
+        requires { RowsFit (i + 1) self.ops.now self.cells.now }
+        ensures { set_of result ≡ (row_at self.entry.ops.now self.entry.cells.now i).adds }
+    {
+        set(self.ops, i, facts::WORDS)
+    }
 
-pub fn cost(ops: &[u64], cells: &[u16], i: usize) -> u64
-    requires { RowsFit (i + 1) ops.now cells.now }
-    ensures { result ≡ (row_at ops.now cells.now i).cost }
-{
-    ops[WORDS * i + 3 * facts::WORDS]
-}
+    pub fn dels(self, i: usize) -> Set
+        requires { RowsFit (i + 1) self.ops.now self.cells.now }
+        ensures { set_of result ≡ (row_at self.entry.ops.now self.entry.cells.now i).dels }
+    {
+        set(self.ops, i, 2 * facts::WORDS)
+    }
 
-// The task that it takes off the stack.
-pub fn task(ops: &[u64], cells: &[u16], i: usize) -> u64
-    requires { RowsFit (i + 1) ops.now cells.now }
-    ensures { result ≡ (row_at ops.now cells.now i).task }
-{
-    wide(cells[CELLS * i + TASK_CELL])
-}
+    pub fn cost(self, i: usize) -> u64
+        requires { RowsFit (i + 1) self.ops.now self.cells.now }
+        ensures { result ≡ (row_at self.entry.ops.now self.entry.cells.now i).cost }
+    {
+        self.ops[WORDS * i + 3 * facts::WORDS]
+    }
 
-// How many steps it stands for.
-pub fn steps(ops: &[u64], cells: &[u16], i: usize) -> u64
-    requires { RowsFit (i + 1) ops.now cells.now }
-    ensures { result ≡ (row_at ops.now cells.now i).steps }
-{
-    wide(cells[CELLS * i + STEPS_CELL])
-}
+    // The task that it takes off the stack.
+    pub fn task(self, i: usize) -> u64
+        requires { RowsFit (i + 1) self.ops.now self.cells.now }
+        ensures { result ≡ (row_at self.entry.ops.now self.entry.cells.now i).task }
+    {
+        u64::from(cell(self.cells, i, TASK_CELL))
+    }
 
-// Its highest position.
-pub fn last(ops: &[u64], cells: &[u16], i: usize) -> u64
-    requires { RowsFit (i + 1) ops.now cells.now }
-    ensures { result ≡ (row_at ops.now cells.now i).last }
-{
-    wide(cells[CELLS * i + LAST_CELL])
-}
+    // How many steps it stands for.
+    pub fn steps(self, i: usize) -> u64
+        requires { RowsFit (i + 1) self.ops.now self.cells.now }
+        ensures { result ≡ (row_at self.entry.ops.now self.entry.cells.now i).steps }
+    {
+        u64::from(cell(self.cells, i, STEPS_CELL))
+    }
 
-// How many tasks it leaves.
-pub fn left(ops: &[u64], cells: &[u16], i: usize) -> usize
-    requires { RowsFit (i + 1) ops.now cells.now }
-    ensures { result ≡ length (row_at ops.now cells.now i).rest }
-{
-    size(cells[CELLS * i + LEFT_CELL])
-}
+    // Its highest position.
+    pub fn last(self, i: usize) -> u64
+        requires { RowsFit (i + 1) self.ops.now self.cells.now }
+        ensures { result ≡ (row_at self.entry.ops.now self.entry.cells.now i).last }
+    {
+        u64::from(cell(self.cells, i, LAST_CELL))
+    }
 
-// The one of them that has h others under it.
-pub fn left_at(ops: &[u64], cells: &[u16], i: usize, h: usize) -> u64
-    requires { RowHeld ops.now cells.now i × (h < length (row_at ops.now cells.now i).rest) }
-    ensures { result ≡ get_or (row_at ops.now cells.now i).rest (length (row_at ops.now cells.now i).rest - 1 - h) 0 }
-{
-    let first = CELLS * i;
-    wide(cells[first + h])
-}
+    // How many tasks it leaves.
+    pub fn left(self, i: usize) -> usize
+        requires { RowsFit (i + 1) self.ops.now self.cells.now }
+        ensures { result ≡ length (row_at self.entry.ops.now self.entry.cells.now i).rest }
+    {
+        usize::from(cell(self.cells, i, LEFT_CELL))
+    }
 
-// Puts those that it leaves on a stack of which `below` tasks stay. All cells go, since a fixed count is one load and one store.
-pub fn push(stack: &mut [u16; STACK], below: usize, ops: &[u64], cells: &[u16], i: usize)
-    requires { (length stack.old ≡ stack_cells) × (below + most_subtasks ≤ stack_cells) × RowHeld ops.now cells.now i }
-    ensures { Pushed stack.old below (row_at ops.now cells.now i).rest stack.new }
-{
-    let first = CELLS * i;
-    let mut h: usize = 0;
-    while h < TASK_CELL {
-        stack[below + h] = cells[first + h];
-        h += 1;
+    // The one of them that has h others under it.
+    pub fn left_at(self, i: usize, h: usize) -> u64
+        requires { RowHeld self.ops.now self.cells.now i × (h < length (row_at self.ops.now self.cells.now i).rest) }
+        ensures { result ≡ get_or (row_at self.entry.ops.now self.entry.cells.now i).rest (length (row_at self.entry.ops.now self.entry.cells.now i).rest - 1 - h) 0 }
+    {
+        u64::from(cell(self.cells, i, h))
+    }
+
+    // Puts those that it leaves on a stack of which `below` tasks stay. All cells go, since a fixed count is one load and one store.
+    pub fn push(self, stack: &mut [u16; STACK], below: usize, i: usize)
+        requires { (length stack.old ≡ stack_cells) × (below + most_subtasks ≤ stack_cells) × RowHeld self.ops.now self.cells.now i }
+        ensures { Pushed stack.old below (row_at self.entry.ops.now self.entry.cells.now i).rest stack.new }
+    {
+        let first = CELLS * i;
+        for h in 0..TASK_CELL {
+            stack[below + h] = self.cells[first + h];
+        }
     }
 }

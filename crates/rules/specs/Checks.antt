@@ -1,10 +1,10 @@
 -- "The check gives cost, operators and steps", a line at a time; "The step list".
-use Rattle.std.specs.Prelude.{ℕ, suc, ◌+◌, ◌/◌, ◌%◌, List, [], ◌∷◌, length}
+use Rattle.std.specs.Prelude.{ℕ, suc, ◌+◌, ◌/◌, ◌%◌, List, [], ◌∷◌, length, Result}
 use Rattle.rules.specs.Limits.{method_words}
 use Rattle.rules.specs.Reasons.{line_shape, not_emitted, not_applicable, stack_not_empty, goal_missing}
-use Rattle.rules.specs.declared.Verdict.{Verdict}
-use Rattle.rules.specs.declared.Verdict.TheVariants.{Accepted, Refused}
-use Rattle.basics.specs.Answers.{Answer, answer, refusal, check}
+use Rattle.rules.specs.declared.Tally.{Tally as TallyInCode}
+use Rattle.basics.specs.declared.Refusal.{Refusal}
+use Rattle.basics.specs.Answers.{Answer, answer, answer_of, refusal, check}
 use Rattle.rules.specs.Tables.{Table, goal_facts}
 use Rattle.rules.specs.Facts.{holds}
 use Rattle.rules.specs.Progression.{State, Step, act, mth, is_empty, after_all, begin, total_cost}
@@ -31,9 +31,11 @@ abbrev pub steps_in : Tally → ℕ
 steps_in y = y.steps
 
 -- What the code's verdict says.
-abbrev pub verdict_of : Verdict → Answer Tally
-verdict_of (Accepted cost operators steps) = accepted cost operators steps
-verdict_of (Refused number place) = refusal number place
+abbrev pub tally_of : TallyInCode → Tally
+tally_of y = record { cost = y.cost; operators = y.operators; steps = y.steps }
+
+abbrev pub verdict_of : Result TallyInCode Refusal → Answer Tally
+verdict_of r = answer_of tally_of r
 
 -- Where a check stands: the lines passed ("Lines count from 1, comments too"), the state, and the tally so far.
 pub record Place : Type 0 where

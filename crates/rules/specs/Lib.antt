@@ -1,6 +1,7 @@
 -- Document 01, as document 02 changes it, as definitions, a module a chapter. Nothing here is about code.
 pub mod Limits
 pub mod Reasons
+pub mod ReasonNumbers
 pub mod Numbers
 pub mod Tables
 pub mod Facts

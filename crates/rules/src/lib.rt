@@ -1,12 +1,30 @@
-// The numbers of document 01 by name, and the types that contracts share. The definitions are in specs/; there is no function here.
+// The numbers of document 01 by name, and the types that contracts share. The definitions are in specs/.
 #![tactic(auto)]
 
 pub mod limits;
 pub mod reasons;
 
-// What the check of a plan answers: cost, operators and steps, or a refusal's number and place.
+pub use reasons::Reason;
+
+// What an accepted plan comes to.
 #[derive(Clone, Copy)]
-pub enum Verdict {
-    Accepted(u64, u64, u64),
-    Refused(u64, u64),
+pub struct Tally {
+    pub cost: u64,
+    pub operators: u64,
+    pub steps: u64,
+}
+
+// What an operator begins with.
+#[derive(Clone, Copy)]
+pub enum Kind {
+    Action,
+    Method,
+}
+
+// An operator as a plan's line names it: which action or method, and at which position.
+#[derive(Clone, Copy)]
+pub struct Operator {
+    pub kind: Kind,
+    pub number: u64,
+    pub position: u64,
 }

@@ -1,38 +1,40 @@
-// The refusals by name, as code says them. The contracts say them by the names of specs/Reasons.
-pub const BAD_BOUND: u64 = 1;
+// The refusals by name, as code says them, each with its number. The contracts say the numbers by the names of specs/Reasons.
+ghost use Rattle.std.specs.Prelude.{◌≡◌};
+ghost use Rattle.rules.specs.ReasonNumbers.{number};
 
-pub const BAD_FORM: u64 = 2;
+use basics::Refusal;
 
-pub const TABLE_TOO_LONG: u64 = 3;
+#[derive(Clone, Copy)]
+pub enum Reason {
+    BadBound = 1,
+    BadForm = 2,
+    TableTooLong = 3,
+    PlanTooLong = 4,
+    TableEnds = 5,
+    BadNumber = 6,
+    OutOfRange = 7,
+    NotThere = 8,
+    BytesAfterTable = 9,
+    NoSuchSection = 10,
+    LineShape = 11,
+    NotEmitted = 12,
+    NotApplicable = 13,
+    StackNotEmpty = 14,
+    GoalMissing = 15,
+    NoRoom = 16,
+    BadLimits = 17,
+    NoPlan = 18,
+    OverBudget = 19,
+}
 
-pub const PLAN_TOO_LONG: u64 = 4;
-
-pub const TABLE_ENDS: u64 = 5;
-
-pub const BAD_NUMBER: u64 = 6;
-
-pub const OUT_OF_RANGE: u64 = 7;
-
-pub const NOT_THERE: u64 = 8;
-
-pub const BYTES_AFTER_TABLE: u64 = 9;
-
-pub const NO_SUCH_SECTION: u64 = 10;
-
-pub const LINE_SHAPE: u64 = 11;
-
-pub const NOT_EMITTED: u64 = 12;
-
-pub const NOT_APPLICABLE: u64 = 13;
-
-pub const STACK_NOT_EMPTY: u64 = 14;
-
-pub const GOAL_MISSING: u64 = 15;
-
-pub const NO_ROOM: u64 = 16;
-
-pub const BAD_LIMITS: u64 = 17;
-
-pub const NO_PLAN: u64 = 18;
-
-pub const OVER_BUDGET: u64 = 19;
+impl Reason {
+    // The refusal for this reason, at a place.
+    pub fn at(self, place: u64) -> Refusal
+        ensures { result ≡ record { number = number self; place = place } }
+    {
+        Refusal {
+            number: self as u64,
+            place,
+        }
+    }
+}

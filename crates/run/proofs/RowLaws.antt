@@ -1,5 +1,5 @@
 -- The ways out of a step: which holds follows from the cells.
-use mathlib.Core.Path.{◌≡◌, sym, ap, ap₂, subst, ◌∙◌}
+use mathlib.Core.Path.{◌≡◌, sym, ap, ap₂, ◌∙◌}
 use mathlib.Core.Logic.{◌≢◌}
 use mathlib.Core.Bool.{Bool, true, false, ◌&&◌, cond}
 use mathlib.Core.List.{List, ◌++◌, tail}
@@ -14,13 +14,12 @@ use Rattle.rules.specs.Reasons.{not_emitted, not_applicable}
 use Rattle.rules.specs.Facts.{holds, changed}
 use Rattle.rules.specs.Progression.{on_top}
 use Rattle.facts.specs.Sets.{set_of}
-use Rattle.rows.specs.Sizes.{stack_cells, most_steps, most_row_cost}
+use Rattle.rows.specs.Sizes.{most_steps, most_row_cost}
 use Rattle.rows.specs.Rows.{Row, Pushed}
 use Rattle.rows.specs.Stacks.{stack_of}
 use Rattle.run.specs.Steps.{Point, Moved, refused, step_row}
-use Rattle.run.specs.Runs.{most_operators, point_of, turned_of, Landed, ProgressOk}
+use Rattle.run.specs.Runs.{most_operators, point_of, Landed, ProgressOk}
 use Rattle.run.specs.declared.Progress.{Progress}
-use Rattle.run.specs.declared.Turned.{Turned}
 use Rattle.rows.proofs.StackLaws.{stack_pop, stack_height}
 
 module _ (r : Row) (pos : ℕ) (t : Progress) (cells : List ℕ) where
@@ -82,12 +81,6 @@ module _ (r : Row) (pos : ℕ) (t : Progress) (cells : List ℕ) where
 
         pub row_done : holds r.needs (set_of t.facts) ≡ true → arrived (r.rest ++ stack_of cells (t.height - 1)) ≡ step_row r pos here
         row_done n = sym (decided ∙ rw (eq-eqb (get_or cells (t.height - 1) 0) r.task k, n))
-
--- A refused turn and one that lands: what is kept.
-module _ (cells : List ℕ) {r : Turned} {t : Progress} {x : Moved} where
-  pub refusing : {n : ℕ} → r ≡ record { number = n; progress = t } → refused n (point_of t cells) ≡ x → (length cells ≡ stack_cells) × ProgressOk t
-      → (turned_of r cells ≡ x) × ((length cells ≡ stack_cells) × ProgressOk r.progress)
-  refusing e q p = (ap (λ (u : Turned). turned_of u cells) e ∙ q, (p.0, subst (λ (u : Turned). ProgressOk u.progress) (sym e) p.1))
 
 -- The new point, and that its numbers fit.
 module _ {t : Progress} {below : ℕ} {row : Row} {r : Progress} (h : Landed t below row r) where

@@ -8,76 +8,78 @@ ghost use Rattle.rules.specs.Progression.{begin};
 ghost use Rattle.rules.specs.Walks.{walk};
 ghost use Rattle.words.specs.Words.{table_of};
 ghost use Rattle.run.specs.Ready.{Ready};
-ghost use Rattle.trail.specs.Trails.{trail_cells};
+ghost use Rattle.trail.specs.Trails.{trail_marks};
 ghost use Rattle.links.specs.Links.{Linked};
 ghost use Rattle.search.specs.Endings.{Tells};
 
-use rows::row;
-use spots::SAVED;
+use basics::Refusal;
+use links::Links;
+use rows::{Rows, row};
+use rules::Reason;
+use trail::Mark;
+use words::Words;
 
-// How a walk ends: above the budget; with no plan; or with the plan that the trail begins with, so many operators. The number of
-// operators applied comes first.
+// How many operators were applied, and how many marks of the trail are the plan found.
 #[derive(Clone, Copy)]
-pub enum Walk {
-    Over,
-    Missing(u64),
-    Found(u64, usize),
+pub struct Found {
+    pub applied: u64,
+    pub count: usize,
 }
 
 // The walk from the start, of at most `limit` operators, of which `budget` may be applied in all.
 pub fn search(
-    words: &[u64],
+    words: Words,
     bound: u64,
     form: u64,
-    ops: &[u64],
-    cells: &[u16],
-    links: &[u16],
+    rows: Rows,
+    links: &Links,
     limit: usize,
     budget: u64,
-    trail: &mut [u16; trail::CELLS],
-) -> Walk
-    requires ready { Ready bound form words.now ops.now cells.now × Linked bound form (table_of words.now) links.now }
-    requires limit_le_most_limit { (limit ≤ most_limit) × (length trail.old ≡ trail_cells) × (budget ≤ most_budget) }
-    ensures tells { Tells (table_of words.now) budget (walk bound form (table_of words.now) limit (begin (table_of words.now))) trail.new result }
-    ensures trail_len { length trail.new ≡ trail_cells }
+    trail: &mut [Mark; trail::MARKS],
+) -> Result<Found, Refusal>
+    requires ready { Ready bound form words.all.now rows.ops.now rows.cells.now × Linked bound form (table_of words.all.now) links.now }
+    requires limit_le_most_limit { (limit ≤ most_limit) × (length trail.old ≡ trail_marks) × (budget ≤ most_budget) }
+    ensures tells { Tells (table_of words.entry.all.now) budget (walk bound form (table_of words.entry.all.now) limit (begin (table_of words.entry.all.now))) trail.new result }
+    ensures trail_len { length trail.new ≡ trail_marks }
 {
     let mut stack = [0u16; row::STACK];
-    let mut saved = [0u64; SAVED];
     let mut depth: usize = 0;
     let mut applied: u64 = 0;
-    let mut at = spots::start(words, links, limit, &mut stack);
+    let mut at = spots::start(words, &mut stack);
+    let mut row = spots::top_row(links, &stack, at.height, limit);
     loop {
-        let row = at.row;
-        if rows::MOST <= row {
+        let Some(index) = row else {
             if depth == 0 {
-                return Walk::Missing(applied);
+                return Err(Reason::NoPlan.at(applied));
             }
             depth -= 1;
-            at = spots::back(trail, &saved, links, ops, cells, depth, &mut stack);
-        } else {
-            let n = spots::try_row(at, &mut stack, ops, cells);
-            if !n.applied {
-                at = spots::past(at, links);
-            } else {
-                if applied == budget {
-                    return Walk::Over;
-                }
-                applied += 1;
-                let rest = limit - (depth + 1);
-                let next = spots::onward(n.facts, n.height, links, &stack, rest);
-                if next.row < rows::MOST {
-                    spots::keep(trail, &mut saved, depth, at);
-                    depth += 1;
-                    at = next;
-                } else {
-                    if spots::is_complete(words, n.height, n.facts) {
-                        spots::keep(trail, &mut saved, depth, at);
-                        let count = depth + 1;
-                        return Walk::Found(applied, count);
-                    }
-                    at = spots::again(at, links, ops, cells, &mut stack);
-                }
-            }
+            at = spots::back(trail[depth], rows, &mut stack);
+            row = links.next(trail[depth].row);
+            continue;
+        };
+        let Some(after) = spots::try_row(at, index, &mut stack, rows) else {
+            row = links.next(index);
+            continue;
+        };
+        if applied == budget {
+            return Err(Reason::OverBudget.at(0));
         }
+        applied += 1;
+        let rest = limit - (depth + 1);
+        let first = spots::top_row(links, &stack, after.height, rest);
+        if first.is_some() {
+            trail[depth] = at.marked(index);
+            depth += 1;
+            at = after;
+            row = first;
+            continue;
+        }
+        if after.is_complete(words) {
+            trail[depth] = at.marked(index);
+            let count = depth + 1;
+            return Ok(Found { applied, count });
+        }
+        spots::put_back(at.height, index, rows, &mut stack);
+        row = links.next(index);
     }
 }

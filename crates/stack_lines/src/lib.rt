@@ -7,130 +7,86 @@ ghost use Rattle.rules.specs.Limits.{most_facts, most_subtasks};
 ghost use Rattle.drawing.specs.Draws.{Room, Draws};
 ghost use Rattle.stack_lines.specs.StackLines.{top_stays, task_stays, top_moves, task_moves, push_one, above, Left};
 
-use rows::row;
-use template::Pen;
+use rows::{Rows, row};
+use template::Template;
 
 // The top, where one task is left and it stays.
-pub fn top_stays(
-    t: &mut [u8],
-    lens: &mut [usize],
-    offs: &mut [usize],
-    pen: Pen,
-    top: u64,
-    stay: u64,
-) -> Pen
-    requires { Room (top_stays top stay) t.old lens.old offs.old pen × (top ≤ most_facts) }
-    ensures { Draws (top_stays top stay) t.old lens.old offs.old pen t.new lens.new offs.new result }
+pub fn top_stays<const B: usize, const N: usize>(t: &mut Template<B, N>, top: u64, stay: u64)
+    requires { Room (top_stays top stay) t.old × (top ≤ most_facts) }
+    ensures { Draws (top_stays top stay) t.old t.new }
 {
     if stay != 1 {
-        return pen;
+        return;
     }
-    let variable = drawing::field(t, pen, b"", top);
-    drawing::moving_line(t, lens, offs, variable, b" ", 1)
+    drawing::field(t, b"", top);
+    drawing::moving_line(t, b" ", 1);
 }
 
 // The place of the task, where the same task is left there.
-pub fn task_stays(
-    t: &mut [u8],
-    lens: &mut [usize],
-    offs: &mut [usize],
-    pen: Pen,
+pub fn task_stays<const B: usize, const N: usize>(
+    t: &mut Template<B, N>,
     top: u64,
     task: u64,
     bottom: u64,
-) -> Pen
-    requires { Room (task_stays top task bottom) t.old lens.old offs.old pen × (top ≤ most_facts) × ThreeDigits task }
-    ensures { Draws (task_stays top task bottom) t.old lens.old offs.old pen t.new lens.new offs.new result }
+)
+    requires { Room (task_stays top task bottom) t.old × (top ≤ most_facts) × ThreeDigits task }
+    ensures { Draws (task_stays top task bottom) t.old t.new }
 {
     if bottom != task {
-        return pen;
+        return;
     }
-    let o = top as usize + 1;
-    let variable = drawing::moving(t, lens, offs, pen, b"", o);
-    drawing::field_line(t, variable, b" ", task)
+    drawing::moving(t, b"", top as usize + 1);
+    drawing::field_line(t, b" ", task);
 }
 
 // The top, where it moves: none is left, or more than one.
-pub fn top_moves(
-    t: &mut [u8],
-    lens: &mut [usize],
-    offs: &mut [usize],
-    pen: Pen,
-    top: u64,
-    stay: u64,
-) -> Pen
-    requires { Room (top_moves top stay) t.old lens.old offs.old pen × (top ≤ most_facts) × (stay ≤ most_subtasks) }
-    ensures { Draws (top_moves top stay) t.old lens.old offs.old pen t.new lens.new offs.new result }
+pub fn top_moves<const B: usize, const N: usize>(t: &mut Template<B, N>, top: u64, stay: u64)
+    requires { Room (top_moves top stay) t.old × (top ≤ most_facts) × (stay ≤ most_subtasks) }
+    ensures { Draws (top_moves top stay) t.old t.new }
 {
     if stay == 1 {
-        return pen;
+        return;
     }
-    let variable = drawing::field(t, pen, b"0 ", top);
-    let before = drawing::moving(t, lens, offs, variable, b" ", 1);
-    drawing::moving_line(t, lens, offs, before, b" ", stay as usize)
+    drawing::field(t, b"0 ", top);
+    drawing::moving(t, b" ", 1);
+    drawing::moving_line(t, b" ", stay as usize);
 }
 
 // The place of the task, where another is left there, or none.
-pub fn task_moves(
-    t: &mut [u8],
-    lens: &mut [usize],
-    offs: &mut [usize],
-    pen: Pen,
+pub fn task_moves<const B: usize, const N: usize>(
+    t: &mut Template<B, N>,
     top: u64,
     task: u64,
     bottom: u64,
-) -> Pen
-    requires { Room (task_moves top task bottom) t.old lens.old offs.old pen × (top ≤ most_facts) × ThreeDigits task × ThreeDigits bottom }
-    ensures { Draws (task_moves top task bottom) t.old lens.old offs.old pen t.new lens.new offs.new result }
+)
+    requires { Room (task_moves top task bottom) t.old × (top ≤ most_facts) × ThreeDigits task × ThreeDigits bottom }
+    ensures { Draws (task_moves top task bottom) t.old t.new }
 {
     if bottom == task {
-        return pen;
+        return;
     }
-    let o = top as usize + 1;
-    let variable = drawing::moving(t, lens, offs, pen, b"0 ", o);
-    let before = drawing::field(t, variable, b" ", task);
-    drawing::field_line(t, before, b" ", bottom)
+    drawing::moving(t, b"0 ", top as usize + 1);
+    drawing::field(t, b" ", task);
+    drawing::field_line(t, b" ", bottom);
 }
 
 // A task that is left, j + 1 places above.
-fn push(
-    t: &mut [u8],
-    lens: &mut [usize],
-    offs: &mut [usize],
-    pen: Pen,
-    top: u64,
-    j: usize,
-    task: u64,
-) -> Pen
-    requires { Room (push_one top j task) t.old lens.old offs.old pen × (top ≤ most_facts) × (j < most_subtasks) × ThreeDigits task }
-    ensures { Draws (push_one top j task) t.old lens.old offs.old pen t.new lens.new offs.new result }
+fn push<const B: usize, const N: usize>(t: &mut Template<B, N>, top: u64, j: usize, task: u64)
+    requires { Room (push_one top j task) t.old × (top ≤ most_facts) × (j < most_subtasks) × ThreeDigits task }
+    ensures { Draws (push_one top j task) t.old t.new }
 {
-    let o = top as usize + j + 2;
-    let variable = drawing::moving(t, lens, offs, pen, b"0 ", o);
-    drawing::field_line(t, variable, b" -1 ", task)
+    drawing::moving(t, b"0 ", top as usize + j + 2);
+    drawing::field_line(t, b" -1 ", task);
 }
 
 // The places above: the tasks that the row leaves there, but the last.
-pub fn pushes(
-    t: &mut [u8],
-    lens: &mut [usize],
-    offs: &mut [usize],
-    pen: Pen,
-    top: u64,
-    ops: &[u64],
-    cells: &[u16],
-) -> Pen
-    requires { Room (above top ops.now cells.now) t.old lens.old offs.old pen × (top ≤ most_facts) × Left ops.now cells.now }
-    ensures { Draws (above top ops.now cells.now) t.old lens.old offs.old pen t.new lens.new offs.new result }
+pub fn pushes<const B: usize, const N: usize>(t: &mut Template<B, N>, top: u64, rows: Rows)
+    requires { Room (above top rows.ops.now rows.cells.now) t.old × (top ≤ most_facts) × Left rows.ops.now rows.cells.now }
+    ensures { Draws (above top rows.entry.ops.now rows.entry.cells.now) t.old t.new }
 {
-    let stay = row::left(ops, cells, 0);
-    let mut next = pen;
-    let mut h: usize = 1;
-    while h < stay {
-        let task = row::left_at(ops, cells, 0, h);
-        let below = h - 1;
-        next = push(t, lens, offs, next, top, below, task);
-        h += 1;
+    let stay = rows.left(0);
+    for h in 1..stay {
+        let task = rows.left_at(0, h);
+        push(t, top, h - 1, task);
     }
-    next
 }

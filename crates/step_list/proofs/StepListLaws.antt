@@ -5,7 +5,7 @@ use mathlib.Core.List.{List, [], ◌∷◌, ◌++◌, map, map-append}
 use native.Mathlib.Numerals.{add-one}
 use native.Mathlib.Omega.{arith}
 use borrow.Author.Tests.{lt-ltb, le-ltb}
-use lib.ListN.{length, take, drop, set, get_or, length-append, length-map, drop_of_length-le}
+use lib.ListN.{length, take, drop, get_or, length-append, length-map, drop_of_length-le}
 use lib.Seq.{sets, take-suc, take_at, length-take-le, length-sets, drop-cons}
 use Rattle.rules.specs.Limits.{method_words}
 use Rattle.rules.specs.Tables.{Table, action_count, method_count, method}
@@ -17,13 +17,6 @@ use Rattle.laws.proofs.CountLaws.{prefix_short}
 use Rattle.words.specs.Words.{table_of, Held}
 use Rattle.rows.specs.Rows.{Row, row_at, Prepared}
 use Rattle.step_list.specs.RowSteps.{row_bytes, rows_steps, rows_bytes, IsRow, StepsHeld, MethodRow}
-
--- The two stores of a word.
-pub word_stored : (out : List ℕ) (at word : ℕ) → word < 256 * 256
-    → set (set out at (word % 256)) (at + 1) (word / 256 % 256) ≡ sets out at ((word % 256) ∷ (word / 256) ∷ [])
-word_stored out at word l =
-    let e : word / 256 % 256 ≡ word / 256 = omega arith in
-    rw (e, add-one at)
 
 -- One subtask more of a method's row of actions.
 pub one_more : (out mid new : List ℕ) (at j word : ℕ) (tasks : List ℕ) → j < length tasks

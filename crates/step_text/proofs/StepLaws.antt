@@ -12,13 +12,11 @@ use Rattle.laws.specs.Valid.{Valid}
 use Rattle.laws.specs.Steps.{step_at, step_text}
 use Rattle.laws.proofs.TextLaws.{upto_same}
 use Rattle.laws.proofs.StepSizes.{positions_low}
-use Rattle.template.specs.declared.Pen.{Pen}
-use Rattle.template.specs.Templates.{Drawn, rendered}
-use Rattle.template.proofs.TemplateLaws.{drawn_is}
+use Rattle.template.specs.declared.memory.Template.{Template}
+use Rattle.template.specs.Templates.{rendered}
 use Rattle.rows.specs.Sizes.{row_words, row_cells}
 use Rattle.rows.specs.Rows.{Row, row_at, row_of}
 use Rattle.compose.specs.RowTexts.{Fit, row_text}
-use Rattle.step_text.specs.declared.Composed.{Composed}
 use Rattle.step_text.specs.Operators.{row_text_at, operator_text_at, IsComposed}
 use Rattle.compose.proofs.FitLaws.{row_text_lem, row_fit}
 
@@ -33,9 +31,9 @@ fit_as i k ops cells p q h x =
       left = x.left;
     })
 
-pub drawn_as : {facts none top free : ℕ} {label name s lens offs : List ℕ} {pen : Pen} (r : Row) → top ≡ facts → free ≡ none → label ≡ name
-    → Drawn s lens offs pen (row_text top free label r) → Drawn s lens offs pen (row_text facts none name r)
-drawn_as r p q u d = drawn_is d (λ n. λ j. row_text (p j) (q j) (u j) r n)
+pub row_text_as : {facts none top free : ℕ} {label name : List ℕ} (r : Row) (p : ℕ) → top ≡ facts → free ≡ none → label ≡ name
+    → row_text top free label r p ≡ row_text facts none name r p
+row_text_as r p a b c = λ j. row_text (a j) (b j) (c j) r p
 
 module _ (b f : ℕ) (t : Table) (i : ℕ) (ops cells : List ℕ) (e : row_at ops cells 0 ≡ row_of b f t (step_at t i)) where
   pub step_fit : Valid t → i < action_count t + method_count t → length ops ≡ row_words → length cells ≡ row_cells → Fit (fact_count t) (task_count t) i ops cells
@@ -45,15 +43,15 @@ module _ (b f : ℕ) (t : Table) (i : ℕ) (ops cells : List ℕ) (e : row_at op
   pub step_count_lem : (row_at ops cells 0).last ≡ positions b f t (step_at t i)
   step_count_lem = ap (λ (r : Row). r.last) e
 
-  pub step_composed : {s lens offs : List ℕ} {pen : Pen} → Drawn s lens offs pen (row_text_at t i (row_at ops cells 0)) → Drawn s lens offs pen (operator_text_at f t i)
-  step_composed d = drawn_is d (λ p. row_text_lem b f t (step_at t i) ops cells p e)
+  pub step_composed : (p : ℕ) → row_text_at t i (row_at ops cells 0) p ≡ operator_text_at f t i p
+  step_composed p = row_text_lem b f t (step_at t i) ops cells p e
 
-module _ {b f : ℕ} {t : Table} {i : ℕ} {s lens offs : List ℕ} {r : Composed} (c : IsComposed b f t i s lens offs r) where
-  pub step_few : Valid t → i < action_count t + method_count t → r.count ≤ b
+module _ {B N b f : ℕ} {t : Table} {i : ℕ} (s : Template B N) {n : ℕ} (c : IsComposed b f t i s n) where
+  pub step_few : Valid t → i < action_count t + method_count t → n ≤ b
   step_few v l = omega (arith, c.count, positions_low f t v i l b)
 
-  pub step_drawn : step_text b f t i ≡ upto (rendered s lens offs r.pen) r.count
+  pub step_drawn : step_text b f t i ≡ upto (rendered s) n
   unfolding step_text
   step_drawn =
       ap (upto (operator_text_at f t i)) (sym c.count)
-      ∙ upto_same (operator_text_at f t i) (rendered s lens offs r.pen) r.count (λ p l. sym (c.drawn.text p))
+      ∙ upto_same (operator_text_at f t i) (rendered s) n (λ p l. sym (c.text p))

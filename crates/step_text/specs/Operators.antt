@@ -6,11 +6,11 @@ use Rattle.rules.specs.Operators.{positions}
 use Rattle.rules.specs.Problems.{no_task, name_of}
 use Rattle.laws.specs.Steps.{step_at, operator_text}
 use Rattle.template.specs.Sizes.{operator_bytes}
-use Rattle.template.specs.Templates.{Drawn}
+use Rattle.template.specs.declared.memory.Template.{Template}
+use Rattle.template.specs.Templates.{rendered}
 use Rattle.rows.specs.Rows.{Row}
 use Rattle.compose.specs.RowTexts.{row_text}
 use Rattle.step_text.specs.declared.Label.{Label}
-use Rattle.step_text.specs.declared.Composed.{Composed}
 
 -- The letter and the number of step i's name; the number is no higher than the step's.
 pub record Names (t : Table) (i : ℕ) (r : Label) : Type 0 where
@@ -24,8 +24,8 @@ row_text_at t i r p = row_text (fact_count t) (no_task t) (name_of (step_at t i)
 abbrev pub operator_text_at : ℕ → Table → ℕ → ℕ → List ℕ
 operator_text_at f t i p = operator_text f t (record { what = step_at t i; at = suc p })
 
--- The template says the operator of step i at each position.
-pub record IsComposed (b f : ℕ) (t : Table) (i : ℕ) (s lens offs : List ℕ) (r : Composed) : Type 0 where
-  pub drawn : Drawn s lens offs r.pen (operator_text_at f t i)
-  pub most : r.pen.at + 3 * r.pen.count ≤ operator_bytes
-  pub count : r.count ≡ positions b f t (step_at t i)
+-- The template says the operator of step i at each position; it exists at so many.
+pub record IsComposed {B N : ℕ} (b f : ℕ) (t : Table) (i : ℕ) (s : Template B N) (n : ℕ) : Type 0 where
+  pub text : (p : ℕ) → rendered s p ≡ operator_text_at f t i p
+  pub most : s.at + 3 * s.count ≤ operator_bytes
+  pub count : n ≡ positions b f t (step_at t i)

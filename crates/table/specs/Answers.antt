@@ -1,10 +1,10 @@
 -- What the code's answer says, as a reading of the document.
-use Rattle.basics.specs.Readings.{Reading, got, bad}
+use Rattle.std.specs.Prelude.{ℕ, Result}
+use Rattle.basics.specs.declared.Refusal.{Refusal}
+use Rattle.basics.specs.Readings.{Reading, reading_of}
 use Rattle.rules.specs.Tables.{Action}
 use Rattle.facts.specs.Sets.{action_read}
-use Rattle.table.specs.declared.OneAction.{OneAction}
-use Rattle.table.specs.declared.OneAction.TheVariants.{Got, Bad}
+use Rattle.facts.specs.declared.Action.{Action as ActionInCode}
 
-abbrev pub act_of : OneAction → Reading Action
-act_of (Got a at) = got (action_read a) at
-act_of (Bad why at) = bad why at
+abbrev pub act_of : Result (ActionInCode × ℕ) Refusal → Reading Action
+act_of r = reading_of action_read r

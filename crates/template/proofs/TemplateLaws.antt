@@ -1,8 +1,8 @@
 -- Drawing a template, text by text and number by number, and rendering it.
-use Prim.Native.Nat.{ℕ, zero, suc, ◌+◌, ◌-◌, ◌≤◌, ◌<◌, zero-le}
-use mathlib.Core.Path.{◌≡◌, refl, sym, ap, ap₂, ◌∙◌}
+use Prim.Native.Nat.{ℕ, zero, suc, ◌+◌, ◌-◌, ◌≤◌, ◌<◌}
+use mathlib.Core.Path.{◌≡◌, sym, ap, ap₂, ◌∙◌}
 use mathlib.Core.List.{List, [], ◌++◌, append-nil, append_assoc}
-use lib.ListN.{length, take, drop, get_or, set, length-drop, length-set}
+use lib.ListN.{length, take, drop, set, length-drop}
 use lib.Seq.{take-take, take_at, take_all, drop-append-le, length-take-le, get_or-set_same, get_or-set_other}
 use native.Mathlib.Nat.{le_refl}
 use native.Mathlib.Decide.{dec_lt}
@@ -13,41 +13,49 @@ use Rattle.laws.proofs.ListLaws.{sum_same, sum_more}
 use Rattle.laws.proofs.TextLaws.{upto_more, upto_same}
 use Rattle.text.specs.Appends.{Appends}
 use Rattle.text.proofs.AppendLaws.{drop_take}
-use Rattle.template.specs.declared.Pen.{Pen}
+use Rattle.template.specs.declared.numbers.Number.{Number}
+use Rattle.template.specs.declared.memory.Template.{Template}
 use Rattle.template.specs.Sizes.{most_offset}
-use Rattle.template.specs.Templates.{PenStands, Drawn, start_of, turn, rendered}
+use Rattle.template.specs.Segments.{no_number, number_at, start_of, turn}
+use Rattle.template.specs.Templates.{Blank, rendered}
 
-ends : (lens : List ℕ) (c j : ℕ) → j < c → start_of lens j + get_or lens j 0 ≤ start_of lens c
+ends : (numbers : List Number) (c j : ℕ) → j < c → start_of numbers j + (number_at numbers j).bytes ≤ start_of numbers c
 unfolding sum_to
-ends lens zero j h = absurd (omega arith)
-ends lens (suc c) j h =
+ends numbers zero j h = absurd (omega arith)
+ends numbers (suc c) j h =
     elim (dec_lt j c) [
-      | yes p ↦ omega (arith, ends lens c j p)
-      | no p ↦ let e : j ≡ c = omega arith in rw e (le_refl (start_of lens c + get_or lens c 0))
+      | yes p ↦ omega (arith, ends numbers c j p)
+      | no p ↦ let e : j ≡ c = omega arith in rw e (le_refl (start_of numbers c + (number_at numbers c).bytes))
     ]
 
-module _ {t lens offs : List ℕ} {pen : Pen} (s : PenStands t lens offs pen) where
-  -- Each segment ends where the pen stands, or before.
-  pub segment_ends : (j : ℕ) → j < pen.count → start_of lens j + get_or lens j 0 ≤ pen.at
-  segment_ends j h = omega (arith, ends lens pen.count j h, s.start, s.reach)
-
+module _ {B N : ℕ} (t : Template B N) where
   -- After all numbers the last segment begins.
-  pub last_begins : (j from : ℕ) → j ≡ pen.count → from ≡ start_of lens j → from ≡ pen.from
-  last_begins j from k e = e ∙ ap (start_of lens) k ∙ sym s.start
+  pub last_begins : (j from : ℕ) → j ≡ t.count → from ≡ start_of t.numbers j → from ≡ t.from
+  last_begins j from k e = e ∙ ap (start_of t.numbers) k ∙ sym t.begins
+
+  module _ (j : ℕ) where
+    -- Each segment ends where the next byte stands, or before.
+    pub segment_ends : j < t.count → start_of t.numbers j + (number_at t.numbers j).bytes ≤ t.at
+    segment_ends h = omega (arith, ends t.numbers t.count j h, t.begins, t.reach)
+
+    -- There the next one begins.
+    pub start_more : start_of t.numbers (j + 1) ≡ start_of t.numbers j + (number_at t.numbers j).bytes
+    start_more = sum_more (λ k. (number_at t.numbers k).bytes) j
+
+    -- A turn of a writer: a segment and the number after it.
+    pub turn_more : (p from : ℕ) → from ≡ start_of t.numbers j
+        → upto (turn t.text t.numbers p) (j + 1)
+        ≡ upto (turn t.text t.numbers p) j ++ (take (number_at t.numbers j).bytes (drop from t.text) ++ digits (p + (number_at t.numbers j).offset))
+    unfolding turn
+    turn_more p from e =
+        upto_more (turn t.text t.numbers p) j
+        ∙ (λ i. upto (turn t.text t.numbers p) j ++ (take (number_at t.numbers j).bytes (drop (sym e i) t.text) ++ digits (p + (number_at t.numbers j).offset)))
 
 -- ---- Drawing.
 
-pub drawn_none : (t lens offs : List ℕ) → Drawn t lens offs (record { at = 0; from = 0; count = 0 }) (λ p. [])
-unfolding rendered upto sum_to
-drawn_none t lens offs =
-    record {
-      sound = record { start = refl; reach = zero-le; fits = zero-le; lengths = zero-le; offsets = zero-le; low = λ k h. absurd (omega arith) };
-      text = λ p. refl;
-    }
-
--- The same text, said otherwise.
-pub drawn_is : {t lens offs : List ℕ} {pen : Pen} {x y : ℕ → List ℕ} → Drawn t lens offs pen x → ((p : ℕ) → x p ≡ y p) → Drawn t lens offs pen y
-drawn_is d e = record { sound = d.sound; text = λ p. d.text p ∙ e p }
+pub rendered_none : {B N : ℕ} {t : Template B N} → Blank t → (p : ℕ) → rendered t p ≡ []
+unfolding rendered upto
+rendered_none {t} b p = λ i. upto (turn t.text t.numbers p) (b.count i) ++ take (b.at i - b.from i) (drop (b.from i) t.text)
 
 -- A part of one list and of another with the same front.
 same_part : (l m : List ℕ) (a b n : ℕ) → take a l ≡ take a m → b + n ≤ a → b ≤ length l → b ≤ length m → take n (drop b l) ≡ take n (drop b m)
@@ -75,88 +83,90 @@ module _ {o x n : List ℕ} {a r : ℕ} (h : a ≤ length o) (w : Appends o a x 
       ∙ ap (λ (y : List ℕ). y ++ x) (sym inner ∙ drop_take o b (a - b) a (omega arith) (omega arith))
 
 -- Text after what is drawn.
-pub drawn_text : {t t' y lens offs : List ℕ} {pen : Pen} {x : ℕ → List ℕ} {r : ℕ}
-    → Drawn t lens offs pen x → Appends t pen.at y t' r → r ≤ length t
-    → Drawn t' lens offs (record { at = r; from = pen.from; count = pen.count }) (λ p. x p ++ y)
+pub rendered_text : {B N : ℕ} (t t' : Template B N) {y : List ℕ} → t'.numbers ≡ t.numbers → t'.from ≡ t.from → t'.count ≡ t.count
+    → Appends t.text t.at y t'.text t'.at → (p : ℕ) → rendered t' p ≡ rendered t p ++ y
 unfolding rendered turn
-drawn_text {t} {t'} {y} {lens} {offs} {pen} {x} {r} d w h =
-    let s = d.sound in
-    record {
-      sound = record { start = s.start; reach = omega (arith, w.next, s.reach); fits = omega (arith, w.size); lengths = s.lengths; offsets = s.offsets; low = s.low };
-      text = λ p.
-          let turns : upto (turn t' lens offs p) pen.count ≡ upto (turn t lens offs p) pen.count =
-          upto_same (turn t' lens offs p) (turn t lens offs p) pen.count (λ k q.
-          let e = segment_ends s k q in
-          ap (λ (z : List ℕ). z ++ digits (p + get_or offs k 0))
-          (same_part t' t pen.at (start_of lens k) (get_or lens k 0) (front s.fits w)
-          e (omega (arith, s.fits, w.size)) (omega (arith, s.fits)))) in
-          ap (λ (z : List ℕ). z ++ take (r - pen.from) (drop pen.from t')) turns
-          ∙ ap (λ (z : List ℕ). upto (turn t lens offs p) pen.count ++ z) (tail s.fits w pen.from s.reach (omega (arith, w.size)))
-          ∙ sym (append_assoc (upto (turn t lens offs p) pen.count) (take (pen.at - pen.from) (drop pen.from t)) y)
-          ∙ ap (λ (z : List ℕ). z ++ y) (d.text p);
-    }
+rendered_text t t' {y} n f c w p =
+    let h : t.at ≤ length t.text = omega (arith, t.fits, t.sizes.0) in
+    let r : t'.at ≤ length t'.text = omega (arith, t'.fits, t'.sizes.0) in
+    let turns : upto (turn t'.text t.numbers p) t.count ≡ upto (turn t.text t.numbers p) t.count =
+    upto_same (turn t'.text t.numbers p) (turn t.text t.numbers p) t.count (λ k q.
+    let e : start_of t.numbers k + (number_at t.numbers k).bytes ≤ t.at = segment_ends t k q in
+    ap (λ (z : List ℕ). z ++ digits (p + (number_at t.numbers k).offset))
+    (same_part t'.text t.text t.at (start_of t.numbers k) (number_at t.numbers k).bytes (front h w)
+    e (omega (arith, h, w.size)) (omega (arith, h)))) in
+    (λ i. upto (turn t'.text (n i) p) (c i) ++ take (t'.at - f i) (drop (f i) t'.text))
+    ∙ ap (λ (z : List ℕ). z ++ take (t'.at - t.from) (drop t.from t'.text)) turns
+    ∙ ap (λ (z : List ℕ). upto (turn t.text t.numbers p) t.count ++ z) (tail h w t.from t.reach r)
+    ∙ sym (append_assoc (upto (turn t.text t.numbers p) t.count) (take (t.at - t.from) (drop t.from t.text)) y)
 
-start_set : (lens : List ℕ) (i v j : ℕ) → j ≤ i → start_of (set lens i v) j ≡ start_of lens j
-start_set lens i v j h =
-    sum_same (λ k. get_or (set lens i v) k 0) (λ k. get_or lens k 0) j (λ k q. get_or-set_other lens i k v 0 (λ e. omega arith))
+-- ---- A number after what is drawn: the segment ends.
 
--- A number after what is drawn: the segment ends.
-pub drawn_number : {t lens offs : List ℕ} {pen : Pen} {x : ℕ → List ℕ} (o : ℕ)
-    → o ≤ most_offset → pen.count < length lens → pen.count < length offs → Drawn t lens offs pen x
-    → Drawn t (set lens pen.count (pen.at - pen.from)) (set offs pen.count o) (record { at = pen.at; from = pen.at; count = pen.count + 1 }) (λ p. x p ++ digits (p + o))
-unfolding rendered turn
-drawn_number {t} {lens} {offs} {pen} {x} o most h k d =
-    let s = d.sound in
-    let j : ℕ = pen.count in
-    let lens' : List ℕ = set lens j (pen.at - pen.from) in
-    let offs' : List ℕ = set offs j o in
-    let same : start_of lens' j ≡ pen.from = start_set lens j (pen.at - pen.from) j (le_refl j) ∙ sym s.start in
-    let here : get_or lens' j 0 ≡ pen.at - pen.from = get_or-set_same lens j (pen.at - pen.from) 0 h in
-    let off : get_or offs' j 0 ≡ o = get_or-set_same offs j o 0 k in
-    record {
-      sound = record {
-        start = omega (arith, sum_more (λ i. get_or lens' i 0) j, same, here, s.reach);
-        reach = le_refl pen.at;
-        fits = s.fits;
-        lengths = simp length-set (omega arith);
-        offsets = simp length-set (omega arith);
-        low = λ i q. elim (dec_lt i j) [
-          | yes z ↦ rw (get_or-set_other offs j i o 0 (λ y. omega arith)) (s.low i z)
-          | no z ↦ let last : i ≡ j = omega arith in rw (last, off) most
-        ];
-      };
-      text = λ p.
-          let before : upto (turn t lens' offs' p) j ≡ upto (turn t lens offs p) j =
-          upto_same (turn t lens' offs' p) (turn t lens offs p) j (λ i q.
-          rw (start_set lens j (pen.at - pen.from) i (omega arith), get_or-set_other lens j i (pen.at - pen.from) 0 (λ z. omega arith), get_or-set_other offs j i o 0 (λ z. omega arith))) in
-          let none : take (pen.at - pen.at) (drop pen.at t) ≡ [] =
-          (let gone : pen.at - pen.at ≡ 0 = omega arith in ap (λ (z : ℕ). take z (drop pen.at t)) gone) in
-          ap (λ (z : List ℕ). upto (turn t lens' offs' p) (j + 1) ++ z) none
-          ∙ append-nil (upto (turn t lens' offs' p) (j + 1))
-          ∙ upto_more (turn t lens' offs' p) j
-          ∙ ap (λ (z : List ℕ). z ++ turn t lens' offs' p j) before
-          ∙ ap (λ (z : List ℕ). upto (turn t lens offs p) j ++ z) (rw (same, here, off))
-          ∙ sym (append_assoc (upto (turn t lens offs p) j) (take (pen.at - pen.from) (drop pen.from t)) (digits (p + o)))
-          ∙ ap (λ (z : List ℕ). z ++ digits (p + o)) (d.text p);
-    }
+module _ (numbers : List Number) (i : ℕ) (n : Number) where
+  other : (j : ℕ) → j < i → number_at (set numbers i n) j ≡ number_at numbers j
+  other j h = get_or-set_other numbers i j n no_number (λ e. omega arith)
+
+  pub start_set : (j : ℕ) → j ≤ i → start_of (set numbers i n) j ≡ start_of numbers j
+  start_set j h =
+      sum_same (λ k. (number_at (set numbers i n) k).bytes) (λ k. (number_at numbers k).bytes) j (λ k q. ap (λ (x : Number). x.bytes) (other k (omega arith)))
+
+  pub here : i < length numbers → number_at (set numbers i n) i ≡ n
+  here h = get_or-set_same numbers i n no_number h
+
+  turn_before : (text : List ℕ) (p j : ℕ) → j < i → turn text (set numbers i n) p j ≡ turn text numbers p j
+  unfolding turn
+  turn_before text p j h =
+      (λ k. take (other j h k).bytes (drop (start_set j (omega arith) k) text) ++ digits (p + (other j h k).offset))
+
+  turn_here : (text : List ℕ) (p : ℕ) → i < length numbers
+      → turn text (set numbers i n) p i ≡ take n.bytes (drop (start_of numbers i) text) ++ digits (p + n.offset)
+  unfolding turn
+  turn_here text p h =
+      (λ k. take (here h k).bytes (drop (start_set i (le_refl i) k) text) ++ digits (p + (here h k).offset))
+
+  -- One segment more, and the number after it.
+  pub upto_set : (text : List ℕ) (p : ℕ) → i < length numbers
+      → upto (turn text (set numbers i n) p) (i + 1) ≡ upto (turn text numbers p) i ++ (take n.bytes (drop (start_of numbers i) text) ++ digits (p + n.offset))
+  upto_set text p h =
+      upto_more (turn text (set numbers i n) p) i
+      ∙ ap₂ (λ (x y : List ℕ). x ++ y) (upto_same (turn text (set numbers i n) p) (turn text numbers p) i (turn_before text p)) (turn_here text p h)
+
+-- The last segment begins after the number.
+pub begins_after : {B N : ℕ} (t : Template B N) (n : Number) → t.count < length t.numbers → n.bytes ≡ t.at - t.from
+    → t.at ≡ start_of (set t.numbers t.count n) (t.count + 1)
+begins_after t n h e =
+    omega (arith, sum_more (λ i. (number_at (set t.numbers t.count n) i).bytes) t.count, start_set t.numbers t.count n t.count (le_refl t.count), ap (λ (x : Number). x.bytes) (here t.numbers t.count n h), e, t.begins, t.reach)
+
+pub low_after : {B N : ℕ} (t : Template B N) (n : Number) → t.count < length t.numbers → n.offset ≤ most_offset
+    → (j : ℕ) → j < t.count + 1 → (number_at (set t.numbers t.count n) j).offset ≤ most_offset
+low_after t n h low j l =
+    elim (dec_lt j t.count) [
+      | yes p ↦ rw (other t.numbers t.count n j p) (t.low j p)
+      | no p ↦ let e : j ≡ t.count = omega arith in rw (e, here t.numbers t.count n h) low
+    ]
+
+pub rendered_number : {B N : ℕ} (t t' : Template B N) (n : Number) → t.count < length t.numbers → n.bytes ≡ t.at - t.from → t'.text ≡ t.text
+    → t'.numbers ≡ set t.numbers t.count n → t'.at ≡ t.at → t'.from ≡ t.at → t'.count ≡ t.count + 1
+    → (p : ℕ) → rendered t' p ≡ rendered t p ++ digits (p + n.offset)
+unfolding rendered
+rendered_number t t' n h b x m a f c p =
+    let gone : t.at - t.at ≡ 0 = omega arith in
+    let turns : List ℕ = upto (turn t.text t.numbers p) t.count in
+    (λ i. upto (turn (x i) (m i) p) (c i) ++ take (a i - f i) (drop (f i) (x i)))
+    ∙ ap (λ (z : ℕ). upto (turn t.text (set t.numbers t.count n) p) (t.count + 1) ++ take z (drop t.at t.text)) gone
+    ∙ append-nil (upto (turn t.text (set t.numbers t.count n) p) (t.count + 1))
+    ∙ upto_set t.numbers t.count n t.text p h
+    ∙ (λ i. turns ++ (take (b i) (drop (sym t.begins i) t.text) ++ digits (p + n.offset)))
+    ∙ sym (append_assoc turns (take (t.at - t.from) (drop t.from t.text)) (digits (p + n.offset)))
 
 -- ---- Rendering.
 
-module _ (t lens offs : List ℕ) (p j from : ℕ) where
-  -- A turn of a writer: a segment and the number after it.
-  pub turn_more : from ≡ start_of lens j
-      → upto (turn t lens offs p) (j + 1) ≡ upto (turn t lens offs p) j ++ (take (get_or lens j 0) (drop from t) ++ digits (p + get_or offs j 0))
-  unfolding turn
-  turn_more e =
-      upto_more (turn t lens offs p) j
-      ∙ ap (λ (k : ℕ). upto (turn t lens offs p) j ++ (take (get_or lens j 0) (drop k t) ++ digits (p + get_or offs j 0))) (sym e)
-
-  -- The last segment.
-  pub turn_last : (pen : Pen) → j ≡ pen.count → from ≡ pen.from
-      → rendered t lens offs pen p ≡ upto (turn t lens offs p) j ++ take (pen.at - from) (drop from t)
-  unfolding rendered
-  turn_last pen f e =
-      ap₂ (λ (n k : ℕ). upto (turn t lens offs p) n ++ take (pen.at - k) (drop k t)) (sym f) (sym e)
+-- The last segment.
+pub turn_last : {B N : ℕ} (t : Template B N) (p j from : ℕ) → j ≡ t.count → from ≡ t.from
+    → rendered t p ≡ upto (turn t.text t.numbers p) j ++ take (t.at - from) (drop from t.text)
+unfolding rendered
+turn_last t p j from f e =
+    ap₂ (λ (n k : ℕ). upto (turn t.text t.numbers p) n ++ take (t.at - k) (drop k t.text)) (sym f) (sym e)
 
 -- A part of a text, from a place to another.
 module _ (t : List ℕ) (from n : ℕ) where

@@ -1,3 +1,4 @@
 pub mod Sizes
+pub mod Segments
 pub mod Templates
 pub mod Figures

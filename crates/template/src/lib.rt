@@ -2,7 +2,7 @@
 // change as many bytes after what they write; `put_exactly` alone changes none.
 #![tactic(auto)]
 
-ghost use Rattle.std.specs.Prelude.{◌≡◌, List, [], ◌∷◌, ◌++◌, ℕ, ◌+◌, ◌*◌, ◌-◌, ◌≤◌, ◌<◌, length, take, drop};
+ghost use Rattle.std.specs.Prelude.{◌≡◌, [], ◌∷◌, ◌++◌, ℕ, ◌+◌, ◌*◌, ◌-◌, ◌^◌, ◌≤◌, ◌<◌, length, take, drop};
 ghost use Rattle.basics.specs.Lists.{upto};
 ghost use Rattle.basics.specs.Texts.{digits, ThreeDigits};
 ghost use Rattle.rules.specs.Limits.{most_bound};
@@ -10,9 +10,15 @@ ghost use Rattle.text.specs.Appends.{Appends};
 ghost use Rattle.text.specs.Puts.{Puts, farthest};
 ghost use Rattle.template.specs.Sizes.{chunk, margin, most_offset, figure_count, figure_bytes, operator_bytes};
 ghost use Rattle.template.specs.Figures.{Figures, figure};
-ghost use Rattle.template.specs.Templates.{PenStands, Drawn, rendered};
+ghost use Rattle.template.specs.Templates.{Blank, rendered};
 
 use rules::limits::MOST_BOUND;
+
+mod memory;
+mod numbers;
+
+pub use memory::Template;
+pub use numbers::Number;
 
 // Sizes, with the names that specs/Sizes has for them; and how far a move goes before the next one, which overlaps it.
 pub const CHUNK: usize = 32;
@@ -34,14 +40,6 @@ pub const OPERATOR_BYTES: usize = 1408;
 pub const TEMPLATE_BYTES: usize = OPERATOR_BYTES + MARGIN;
 
 pub const STEP_TEXT_BYTES: usize = OPERATOR_BYTES * MOST_BOUND as usize;
-
-// Where a template is being written: the next byte, where the open segment begins, and how many numbers stand before it.
-#[derive(Clone, Copy)]
-pub struct Pen {
-    pub at: usize,
-    pub from: usize,
-    pub count: usize,
-}
 
 // A chunk of s from `from` on; by way of an array of known size they become wide moves.
 fn put_chunk(out: &mut [u8], at: usize, s: &[u8], from: usize)
@@ -115,14 +113,9 @@ fn fill_figure(figures: &mut [u8], at: usize, n: usize) -> usize
     if n < 100 {
         return put_four(figures, at, ascii(n / 10), ascii(n % 10), 0, 2);
     }
-    put_four(
-        figures,
-        at,
-        ascii(n / 100),
-        ascii(n / 10 % 10),
-        ascii(n % 10),
-        3,
-    )
+    let hundreds = ascii(n / 100);
+    let tens = ascii(n / 10 % 10);
+    put_four(figures, at, hundreds, tens, ascii(n % 10), 3)
 }
 
 pub fn fill_figures(figures: &mut [u8])
@@ -135,112 +128,96 @@ pub fn fill_figures(figures: &mut [u8])
     }
 }
 
-// The segment ends here, and the position plus o stands after it.
-pub fn number(lens: &mut [usize], offs: &mut [usize], pen: Pen, o: usize) -> Pen
-    requires { (pen.from ≤ pen.at) × (pen.count < length lens.old) × (pen.count < length offs.old) × (o ≤ most_offset) }
-    ensures by_index { (t : List ℕ) (x : ℕ → List ℕ) → Drawn t lens.old offs.old pen x → Drawn t lens.new offs.new result (λ p. x p ++ digits (p + o)) }
-    ensures at_value { (result.at ≡ pen.at) × (result.from ≡ pen.at) × (result.count ≡ pen.count + 1) }
-    ensures lens_len_unchanged { (length lens.new ≡ length lens.old) × (length offs.new ≡ length offs.old) }
-{
-    let j = pen.count;
-    lens[j] = pen.at - pen.from;
-    offs[j] = o;
-    let count = j + 1;
-    Pen {
-        at: pen.at,
-        from: pen.at,
-        count: count,
+impl<const BYTES: usize, const NUMBERS: usize> Template<BYTES, NUMBERS> {
+    pub fn blank() -> Self
+        requires { BYTES + 16 * NUMBERS + 32 ≤ 2 ^ 63 }
+        ensures { Blank result }
+    {
+        Template {
+            text: [0; BYTES],
+            numbers: [Number {
+                bytes: 0,
+                offset: 0,
+            }; NUMBERS],
+            at: 0,
+            from: 0,
+            count: 0,
+        }
     }
-}
 
-// The template's text at the position p, byte by byte: nothing after it changes.
-pub fn put_exactly(
-    out: &mut [u8],
-    at: usize,
-    t: &[u8],
-    lens: &[usize],
-    offs: &[usize],
-    pen: Pen,
-    p: usize,
-) -> usize
-    requires { PenStands t.now lens.now offs.now pen × (p < most_bound) × (at + pen.at + 3 * pen.count ≤ farthest) }
-    ensures { Puts out.old at (rendered t.now lens.now offs.now pen p) out.new result }
-{
-    let mut next = at;
-    let mut from = 0;
-    for j in 0..pen.count {
-        let n = lens[j];
-        let end = from + n;
-        let o = offs[j];
-        let v = (p + o) as u64;
-        next = text::put_field(out, next, &t[from..end], v);
-        from = end;
+    // Begins anew, whatever was drawn.
+    pub fn clear(&mut self)
+        ensures { Blank self.new }
+    {
+        self.at = 0;
+        self.from = 0;
+        self.count = 0;
     }
-    let end = pen.at;
-    text::put(out, next, &t[from..end])
-}
 
-// The template's text at the position p.
-fn put_rendered(
-    out: &mut [u8],
-    at: usize,
-    t: &[u8],
-    lens: &[usize],
-    offs: &[usize],
-    figures: &[u8],
-    pen: Pen,
-    p: usize,
-) -> usize
-    requires pen_stands { PenStands t.now lens.now offs.now pen × (pen.at + margin ≤ length t.now) × (p < most_bound) × Figures figures.now figure_count }
-    requires margin_in_bounds { at + pen.at + 3 * pen.count + margin ≤ length out.old }
-    ensures appends { Appends out.old at (rendered t.now lens.now offs.now pen p) out.new result }
-    ensures upper_bound { result ≤ at + pen.at + 3 * pen.count }
-{
-    let mut next = at;
-    let mut from = 0;
-    for j in 0..pen.count {
-        let n = lens[j];
-        let end = put_part(out, next, t, from, n);
-        let o = offs[j];
-        let v = p + o;
-        next = put_figure(out, end, figures, v);
-        from += n;
+    // The segment ends here, and the position plus o stands after it.
+    pub fn number(&mut self, o: usize)
+        requires { (self.old.count < NUMBERS) × (o ≤ most_offset) }
+        ensures text { (p : ℕ) → rendered self.new p ≡ rendered self.old p ++ digits (p + o) }
+        ensures at_value { (self.new.at ≡ self.old.at) × (self.new.count ≡ self.old.count + 1) }
+    {
+        let j = self.count;
+        self.numbers[j] = Number {
+            bytes: self.at - self.from,
+            offset: o,
+        };
+        self.from = self.at;
+        self.count = j + 1;
     }
-    put_part(out, next, t, from, pen.at - from)
-}
 
-// The template's text at the positions 0, 1, .. n - 1, one after the other.
-pub fn put_positions(
-    out: &mut [u8],
-    at: usize,
-    t: &[u8],
-    lens: &[usize],
-    offs: &[usize],
-    figures: &[u8],
-    pen: Pen,
-    n: usize,
-) -> usize
-    requires pen_stands { PenStands t.now lens.now offs.now pen × (pen.at + margin ≤ length t.now) × Figures figures.now figure_count }
-    requires count_bound { (pen.at + 3 * pen.count ≤ operator_bytes) × (n ≤ most_bound) × (at + operator_bytes * n + margin ≤ length out.old) }
-    ensures appends { Appends out.old at (upto (rendered t.now lens.now offs.now pen) n) out.new result }
-    ensures upper_bound { result ≤ at + operator_bytes * n }
-{
-    let mut next = at;
-    for p in 0..n {
-        next = put_rendered(
-            out,
-            next,
-            t,
-            lens,
-            offs,
-            figures,
-            Pen {
-                at: pen.at,
-                from: pen.from,
-                count: pen.count,
-            },
-            p,
-        );
+    // The template's text at the position p, byte by byte: nothing after it changes.
+    pub fn put_exactly(&self, out: &mut [u8], at: usize, p: usize) -> usize
+        requires { (p < most_bound) × (at + self.now.at + 3 * self.now.count ≤ farthest) }
+        ensures { Puts out.old at (rendered self.now p) out.new result }
+    {
+        let text = &self.text[..];
+        let mut next = at;
+        let mut from = 0;
+        for j in 0..self.count {
+            let number = self.numbers[j];
+            let end = from + number.bytes;
+            let v = (p + number.offset) as u64;
+            next = text::put_field(out, next, &text[from..end], v);
+            from = end;
+        }
+        let end = self.at;
+        text::put(out, next, &text[from..end])
     }
-    next
+
+    // The template's text at the position p.
+    fn put_rendered(&self, out: &mut [u8], at: usize, figures: &[u8], p: usize) -> usize
+        requires stands { (self.now.at + margin ≤ BYTES) × (p < most_bound) × Figures figures.now figure_count }
+        requires margin_in_bounds { at + self.now.at + 3 * self.now.count + margin ≤ length out.old }
+        ensures appends { Appends out.old at (rendered self.now p) out.new result }
+        ensures upper_bound { result ≤ at + self.now.at + 3 * self.now.count }
+    {
+        let mut next = at;
+        let mut from = 0;
+        for j in 0..self.count {
+            let n = self.numbers[j].bytes;
+            let end = put_part(out, next, &self.text, from, n);
+            let v = p + self.numbers[j].offset;
+            next = put_figure(out, end, figures, v);
+            from += n;
+        }
+        put_part(out, next, &self.text, from, self.at - from)
+    }
+
+    // The template's text at the positions 0, 1, .. n - 1, one after the other.
+    pub fn put_positions(&self, out: &mut [u8], at: usize, figures: &[u8], n: usize) -> usize
+        requires stands { (self.now.at + margin ≤ BYTES) × Figures figures.now figure_count }
+        requires count_bound { (self.now.at + 3 * self.now.count ≤ operator_bytes) × (n ≤ most_bound) × (at + operator_bytes * n + margin ≤ length out.old) }
+        ensures appends { Appends out.old at (upto (rendered self.now) n) out.new result }
+        ensures upper_bound { result ≤ at + operator_bytes * n }
+    {
+        let mut next = at;
+        for p in 0..n {
+            next = self.put_rendered(out, next, figures, p);
+        }
+        next
+    }
 }

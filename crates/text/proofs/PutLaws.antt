@@ -3,7 +3,7 @@ use mathlib.Core.Path.{◌≡◌, refl, sym, ap, ◌∙◌}
 use mathlib.Core.List.{List, [], ◌∷◌, ◌++◌}
 use Prim.Native.Nat.{ℕ, ◌+◌, ◌/◌, ◌%◌, ◌≤◌, ◌<◌}
 use native.Mathlib.Omega.{arith}
-use lib.ListN.{length, set, length-append, length-set}
+use lib.ListN.{length, length-append}
 use lib.Seq.{sets}
 use Rattle.basics.specs.Texts.{digits}
 use Rattle.laws.proofs.StepLaws.{sets_append}
@@ -33,17 +33,6 @@ infixl 20 ◌▹◌
 -- The same text, said otherwise.
 pub puts_is : {o x y n : List ℕ} {a r : ℕ} → y ≡ x → Puts o a x n r → Puts o a y n r
 puts_is e w = rw e w
-
--- No room: nothing is written.
-pub puts_counted : (o x : List ℕ) (a r : ℕ) → r ≡ a + length x → length o < r → Puts o a x o r
-puts_counted o x a r e h = record { next = e; size = refl; text = λ (k : r ≤ length o). absurd (omega arith) }
-
--- What is stored.
-pub puts_sets : (o x n : List ℕ) (a r : ℕ) → r ≡ a + length x → n ≡ sets o a x → length n ≡ length o → Puts o a x n r
-puts_sets o x n a r e w l = record { next = e; size = l; text = λ _. w }
-
-pub puts_one : (o : List ℕ) (a b r : ℕ) → r ≡ a + 1 → Puts o a (b ∷ []) (set o a b) r
-puts_one o a b r e = puts_sets o (b ∷ []) (set o a b) a r e refl (length-set o a b)
 
 -- A number, by its last digit b.
 module _ {o n : List ℕ} {a r b : ℕ} (k : ℕ) where

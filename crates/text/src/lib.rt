@@ -7,15 +7,14 @@ ghost use Rattle.std.proofs.lemmas.List.Edits.{sets};
 ghost use Rattle.basics.specs.Texts.{digits, ThreeDigits};
 ghost use Rattle.text.specs.Puts.{Puts, farthest};
 
-// Bytes that are known to fit; nothing else changes.
+// Bytes that are known to fit; nothing else changes. Of a loop over a text that is known where it is put only the stores are left;
+// `copy_from_slice` compares addresses each time.
 pub fn copy(out: &mut [u8], at: usize, s: &[u8])
     requires { at + length s.now ≤ length out.old }
     ensures { (out.new ≡ sets out.old at s.now) × (length out.new ≡ length out.old) }
 {
-    let mut i = 0;
-    while i < s.len() {
+    for i in 0..s.len() {
         out[at + i] = s[i];
-        i += 1;
     }
 }
 
@@ -31,6 +30,7 @@ pub fn put(out: &mut [u8], at: usize, s: &[u8]) -> usize
     next
 }
 
+// `put` of one byte, in fewer instructions.
 fn put_byte(out: &mut [u8], at: usize, b: u8) -> usize
     requires { at + 1 ≤ farthest }
     ensures { Puts out.old at (b ∷ []) out.new result }

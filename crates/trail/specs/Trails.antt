@@ -1,31 +1,29 @@
--- A walk's operators in cells, two each: its row, its position.
-use Rattle.std.specs.Prelude.{ℕ, ◌+◌, ◌*◌, ◌<◌, ◌≡◌, List, length, get_or}
-use Rattle.basics.specs.Lists.{rows}
+-- A walk's operators as they are marked, in turn.
+use Rattle.std.specs.Prelude.{ℕ, ◌<◌, ◌≡◌, List, length, map, get_or}
 use Rattle.rules.specs.Limits.{most_limit}
 use Rattle.rules.specs.Tables.{Table}
 use Rattle.rules.specs.Operators.{Operator}
 use Rattle.laws.specs.Steps.{step_at}
+use Rattle.trail.specs.declared.Mark.{Mark}
 
-abbrev pub trail_cells : ℕ
-trail_cells = 2 * most_limit
+abbrev pub trail_marks : ℕ
+trail_marks = most_limit
 
-abbrev pub row_in : List ℕ → ℕ → ℕ
-row_in cells i = get_or cells (2 * i) 0
+abbrev pub unmarked : Mark
+unmarked = record { row = 0; position = 0; facts = record { bits = 0 } }
 
-abbrev pub position_in : List ℕ → ℕ → ℕ
-position_in cells i = get_or cells (2 * i + 1) 0
+abbrev pub mark_at : List Mark → ℕ → Mark
+mark_at trail i = get_or trail i unmarked
 
--- Operator i of a trail, and the first n of them.
-abbrev pub operator_in : Table → List ℕ → ℕ → Operator
-operator_in t cells i = record { what = step_at t (row_in cells i); at = position_in cells i }
+-- The operator of a mark, and those of some marks.
+abbrev pub operator_marked : Table → Mark → Operator
+operator_marked t m = record { what = step_at t m.row; at = m.position }
 
-abbrev pub marked : Table → List ℕ → ℕ → List Operator
-marked t cells n = rows (operator_in t cells) n
+abbrev pub marked : Table → List Mark → List Operator
+marked t marks = map (operator_marked t) marks
 
 -- Operator i is marked, and those before it are kept.
-pub record Marked (old : List ℕ) (i r h : ℕ) (new : List ℕ) : Type 0 where
+pub record Marked (old : List Mark) (i : ℕ) (m : Mark) (new : List Mark) : Type 0 where
   pub size : length new ≡ length old
-  pub row : row_in new i ≡ r
-  pub position : position_in new i ≡ h
-  pub rows_kept : (j : ℕ) → j < i → row_in new j ≡ row_in old j
-  pub positions_kept : (j : ℕ) → j < i → position_in new j ≡ position_in old j
+  pub here : mark_at new i ≡ m
+  pub kept : (j : ℕ) → j < i → mark_at new j ≡ mark_at old j

@@ -1,35 +1,29 @@
-// A walk's operators in memory, in turn: of each the row and the position. Only this crate knows where they stand.
+// What a walk keeps of the operators that it has applied, in turn: what tells its plan, and what leads back to where each was tried.
 #![tactic(auto)]
 
-ghost use Rattle.std.specs.Prelude.{◌≡◌, ◌+◌, ◌*◌, ◌≤◌, ◌<◌, length};
-ghost use Rattle.rules.specs.Limits.{most_bound};
-ghost use Rattle.rows.specs.Sizes.{most_rows};
-ghost use Rattle.trail.specs.Trails.{trail_cells, row_in, position_in, Marked};
+ghost use Rattle.std.specs.Prelude.{◌≡◌};
+ghost use Rattle.trail.specs.Trails.{unmarked};
 
-use rows::row;
+use facts::Set;
 
-pub const CELLS: usize = 2 * rules::limits::MOST_LIMIT as usize;
-
-// Operator i's row, and its position.
-pub fn row_at(trail: &[u16], i: usize) -> usize
-    requires { 2 * (i + 1) ≤ length trail.now }
-    ensures { result ≡ row_in trail.now i }
-{
-    row::wide(trail[2 * i]) as usize
+// An operator applied: its row and its position, and the facts before it.
+#[derive(Clone, Copy)]
+pub struct Mark {
+    pub row: usize,
+    pub position: usize,
+    pub facts: Set,
 }
 
-pub fn position_at(trail: &[u16], i: usize) -> usize
-    requires { 2 * (i + 1) ≤ length trail.now }
-    ensures { result ≡ position_in trail.now i }
-{
-    row::wide(trail[2 * i + 1]) as usize
-}
+// A mark for each operator of the longest walk.
+pub const MARKS: usize = rules::limits::MOST_LIMIT as usize;
 
-// Operator i is that of a row at a position; those before it stay.
-pub fn mark(trail: &mut [u16; CELLS], i: usize, row: usize, position: usize)
-    requires { (length trail.old ≡ trail_cells) × (2 * (i + 1) ≤ trail_cells) × (row < most_rows) × (position ≤ most_bound) }
-    ensures { Marked trail.old i row position trail.new }
+// What stands where nothing is marked yet.
+pub fn unmarked() -> Mark
+    ensures { result ≡ unmarked }
 {
-    trail[2 * i] = row as u16;
-    trail[2 * i + 1] = position as u16;
+    Mark {
+        row: 0,
+        position: 0,
+        facts: facts::set_of(0),
+    }
 }

@@ -8,9 +8,11 @@ ghost use Rattle.version3.specs.Spelling.{preamble, spell_variable};
 ghost use Rattle.rules.specs.Limits.{most_facts, most_tasks, most_bound, most_section_bytes};
 ghost use Rattle.rules.specs.Problems.{variable_count, fact_names, height_names};
 ghost use Rattle.laws.specs.Steps.{variable_text};
-ghost use Rattle.words.specs.Words.{table_of, Held};
+ghost use Rattle.words.specs.Words.{table_of};
 ghost use Rattle.text.specs.Puts.{Puts, farthest};
 ghost use Rattle.variables.specs.Variables.{labelled, variable_head, variable, position_names, head_bytes, names_bytes};
+
+use words::Words;
 
 // Text, a number of at most three digits, a line feed.
 pub fn put_line(out: &mut [u8], at: usize, s: &[u8], n: u64) -> usize
@@ -23,9 +25,9 @@ pub fn put_line(out: &mut [u8], at: usize, s: &[u8], n: u64) -> usize
 }
 
 // Version, metric, and how many variables there are.
-pub fn put_preamble(words: &[u64], bound: u64, out: &mut [u8], at: usize) -> usize
-    requires { Held words.now × (bound ≤ most_bound) × (at + most_section_bytes ≤ farthest) }
-    ensures puts { Puts out.old at (preamble (variable_count bound (table_of words.now))) out.new result }
+pub fn put_preamble(words: Words, bound: u64, out: &mut [u8], at: usize) -> usize
+    requires { (bound ≤ most_bound) × (at + most_section_bytes ≤ farthest) }
+    ensures puts { Puts out.old at (preamble (variable_count bound (table_of words.entry.all.now))) out.new result }
     ensures upper_bound { result ≤ at + most_section_bytes }
 {
     let count = problem::variable_count(words, bound);
@@ -96,17 +98,17 @@ fn put_position_variable(out: &mut [u8], at: usize, v: u64, tasks: u64) -> usize
 }
 
 // Variable v: a fact, the top of the stack, or a position.
-pub fn put_variable(words: &[u64], bound: u64, v: u64, out: &mut [u8], at: usize) -> usize
-    requires { Held words.now × (bound ≤ most_bound) × (at + most_section_bytes ≤ farthest) × (v < variable_count bound (table_of words.now)) }
-    ensures puts { Puts out.old at (variable_text bound (table_of words.now) v) out.new result }
+pub fn put_variable(words: Words, bound: u64, v: u64, out: &mut [u8], at: usize) -> usize
+    requires { (bound ≤ most_bound) × (at + most_section_bytes ≤ farthest) × (v < variable_count bound (table_of words.all.now)) }
+    ensures puts { Puts out.old at (variable_text bound (table_of words.entry.all.now) v) out.new result }
     ensures upper_bound { result ≤ at + most_section_bytes }
 {
-    let facts = words::fact_count(words);
+    let facts = words.fact_count();
     if v < facts {
         return put_fact_variable(out, at, v);
     }
     if v == facts {
         return put_top_variable(out, at, v, bound);
     }
-    put_position_variable(out, at, v, words::task_count(words))
+    put_position_variable(out, at, v, words.task_count())
 }

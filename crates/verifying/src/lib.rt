@@ -1,21 +1,51 @@
 // The checking program's work on its input: finding the parts, and writing the verdict as one line.
 #![tactic(auto)]
 
-ghost use Rattle.std.specs.Prelude.{ℕ, ◌≤◌, ◌≡◌, List, length, take};
+ghost use Rattle.std.specs.Prelude.{ℕ, ◌≤◌, ◌≡◌, List, length, take, drop};
 ghost use Rattle.rules.specs.Checks.{verdict_of};
-ghost use Rattle.rules.specs.Programs.{size_in, check_input, check_output};
+ghost use Rattle.rules.specs.Programs.{bound_in, form_in, size_in, check_input, check_output};
 ghost use Rattle.text.specs.Appends.{Appends};
 ghost use Rattle.report.specs.Reports.{line_room};
 ghost use Rattle.report.specs.Inputs.{most_size, most_check_input, count_of, ReadFrom};
 ghost use Rattle.report.specs.Parts.{next_of, size_of};
 
+use basics::Refusal;
 use report::{Input, Part};
-use rules::Verdict;
+use rules::Tally;
 use rules::limits::{MOST_PLAN_BYTES, MOST_TABLE_BYTES};
 use std::io;
 
 // What is read of the input, with the name that specs/Inputs of `report` has for it.
 pub const MOST_INPUT: usize = 4 + MOST_TABLE_BYTES + MOST_PLAN_BYTES + 1;
+
+// What is asked: whether a plan is accepted against a table, under a bound and a form.
+#[derive(Clone, Copy)]
+pub struct Asked<'a> {
+    pub bound: u64,
+    pub form: u64,
+    pub table: &'a [u8],
+    pub plan: &'a [u8],
+}
+
+impl<'a> Asked<'a> {
+    // The parts of an input: bound, form, the table's length in two bytes, low first, the table, and all behind it the plan.
+    pub fn read(input: &'a [u8]) -> Asked<'a>
+        ensures numbers { (result.bound ≡ bound_in input.now) × (result.form ≡ form_in input.now) }
+        ensures table { result.table.now ≡ take (size_in input.now) (drop 4 input.now) }
+        ensures plan { result.plan.now ≡ drop (size_in input.now) (drop 4 input.now) }
+        ensures size { size_in input.now ≤ most_size }
+    {
+        let size = report::two_bytes(report::byte(input, 2), report::byte(input, 3));
+        let (_, rest) = report::split(input, 4);
+        let (table, plan) = report::split(rest, size);
+        Asked {
+            bound: report::byte(input, 0) as u64,
+            form: report::byte(input, 1) as u64,
+            table,
+            plan,
+        }
+    }
+}
 
 // What the program does with what it has read into the buffer.
 pub fn answer<P: Print>(printer: &P, buffer: &[u8], input: Input) -> io::Result<()>
@@ -23,7 +53,7 @@ pub fn answer<P: Print>(printer: &P, buffer: &[u8], input: Input) -> io::Result<
 {
     let mut out = [0u8; report::LINE_ROOM];
     let part = put_part(buffer, input, &mut out);
-    report::send(printer, &out, part)?;
+    part.send(printer, &out)?;
     Ok(())
 }
 
@@ -33,8 +63,7 @@ fn put_part(buffer: &[u8], input: Input, out: &mut [u8]) -> Part
     ensures by_index { (s : List ℕ) → ReadFrom s buffer.now input → take (size_of result) out.new ≡ check_output s }
     ensures result_value { (next_of result ≡ 1) × (size_of result ≤ length out.new) × (length out.new ≡ length out.old) }
 {
-    let n = report::count(input);
-    let size = put_line(&buffer[..n], out);
+    let size = put_line(input.of(buffer), out);
     report::part_of(1, size)
 }
 
@@ -45,18 +74,14 @@ fn put_line(input: &[u8], out: &mut [u8]) -> usize
     ensures upper_bound { (result ≤ line_room) × (size_in input.now ≤ most_size) }
 {
     match decide(input) {
-        Verdict::Accepted(cost, operators, steps) => report::accepted(out, cost, operators, steps),
-        Verdict::Refused(number, place) => report::refused(out, number, place),
+        Ok(tally) => report::accepted(out, tally),
+        Err(refusal) => report::refused(out, refusal),
     }
 }
 
-fn decide(input: &[u8]) -> Verdict
+fn decide(input: &[u8]) -> Result<Tally, Refusal>
     ensures { (verdict_of result ≡ check_input input.now) × (size_in input.now ≤ most_size) }
 {
-    let bound = report::byte(input, 0) as u64;
-    let form = report::byte(input, 1) as u64;
-    let size = report::two_bytes(report::byte(input, 2), report::byte(input, 3));
-    let start = report::smaller(4, input.len());
-    let end = start + report::smaller(size, input.len() - start);
-    judging::verdict(bound, form, &input[start..end], &input[end..])
+    let asked = Asked::read(input);
+    judging::verdict(asked.bound, asked.form, asked.table, asked.plan)
 }

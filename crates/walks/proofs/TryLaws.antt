@@ -7,6 +7,7 @@ use native.Mathlib.Omega.{arith}
 use borrow.Author.Tests.{leb-true, leb-false}
 use lib.Dec.{T, leb}
 use lib.ListN.{length, get_or}
+use Rattle.std.specs.Prelude.{Option, Some, None, is_some, IfSome}
 use Rattle.rules.specs.Reasons.{not_emitted, not_applicable}
 use Rattle.rules.specs.Tables.{Table}
 use Rattle.rules.specs.Facts.{holds}
@@ -27,8 +28,7 @@ use Rattle.run.proofs.StepLaws.{step_document}
 use Rattle.links.specs.Links.{row_count}
 use Rattle.links.proofs.LinkLaws.{row_is, task_is}
 use Rattle.spots.specs.declared.Spot.{Spot}
-use Rattle.spots.specs.declared.Tried.{Tried}
-use Rattle.spots.specs.Spots.{state_at, state_in, Lands, Tries}
+use Rattle.spots.specs.Spots.{state_in, Lands, Tries}
 
 -- By the number: 0 where it was applied.
 abbrev Did : ℕ → ℕ → Table → State → Operator → ℕ → State → Type 0
@@ -56,30 +56,30 @@ document_did b f t o p m e =
 abbrev progress_at : Spot → Progress
 progress_at at = record { facts = at.facts; height = at.height; operators = 0; steps = 0; cost = 0 }
 
-module _ {b f : ℕ} {t : Table} {ops cells : List ℕ} (p : Prepared b f t ops cells) (at : Spot) (l : at.row < row_count t) (old new : List ℕ) (q : Tried)
-    (high : 1 ≤ at.height) (top : get_or old (at.height - 1) 0 ≡ task_of t (step_at t at.row)) (tries : Tries (row_at ops cells at.row) at old new q) where
+module _ {b f : ℕ} {t : Table} {ops cells : List ℕ} (p : Prepared b f t ops cells) (at : Spot) (i : ℕ) (l : i < row_count t) (old new : List ℕ) (q : Option Spot)
+    (high : 1 ≤ at.height) (top : get_or old (at.height - 1) 0 ≡ task_of t (step_at t i)) (tries : Tries (row_at ops cells i) at old new q) where
   abbrev this : Operator
-  this = here (state_in at old) (step_at t at.row)
+  this = here (state_in at old) (step_at t i)
 
   abbrev row : Row
-  row = row_at ops cells at.row
+  row = row_at ops cells i
 
   -- What the row makes of the point is what the document does.
   did : (m : Moved) → m ≡ step_row row at.height (point_of (progress_at at) old) → Did b f t (state_in at old) this m.number (state_of m.point)
   did m e =
-      let x = step_at t at.row in
+      let x = step_at t i in
       let here = point_of (progress_at at) old in
       let z = sym (stack_height old at.height) in
-      let known = by_step t (λ _ x. Known t x) at.row l (λ k h. h) (λ k h. h) in
+      let known = by_step t (λ _ x. Known t x) i l (λ k h. h) (λ k h. h) in
       document_did b f t this here m
-      (e ∙ ap (λ (y : Row). step_row y at.height here) (row_is p at.row l) ∙ step_document f t b x at.height here known
+      (e ∙ ap (λ (y : Row). step_row y at.height here) (row_is p i l) ∙ step_document f t b x at.height here known
       ∙ (λ i. document_step b f t (record { what = x; at = z i }) here))
 
   on_top_lem : get_or old (at.height - 1) 0 ≡ row.task
-  on_top_lem = top ∙ sym (task_is p at.row l)
+  on_top_lem = top ∙ sym (task_is p i l)
 
-  pub tried_off : q.applied ≡ false → may b f t (state_in at old) this ≡ false
-  tried_off n = go (leb at.height row.last) refl (holds row.needs (set_of at.facts)) refl (sym tries.applied ∙ n)
+  pub tried_off : q ≡ None → may b f t (state_in at old) this ≡ false
+  tried_off n = go (leb at.height row.last) refl (holds row.needs (set_of at.facts)) refl (sym tries.applied ∙ ap is_some n)
     where
       go : (c : Bool) → leb at.height row.last ≡ c → (d : Bool) → holds row.needs (set_of at.facts) ≡ d → (c && d) ≡ false
           → may b f t (state_in at old) this ≡ false
@@ -90,14 +90,14 @@ module _ {b f : ℕ} {t : Table} {ops cells : List ℕ} (p : Prepared b f t ops 
           (row_needs row at.height (progress_at at) old high (leb-true at.height row.last e) refl on_top_lem g)).0
       go true e true g h = absurd (subst T h tt)
 
-  pub tried_on : q.applied ≡ true → (may b f t (state_in at old) this ≡ true) × (state_at (set_of q.facts) new q.height ≡ led f t (state_in at old) this)
-  tried_on n = go (leb at.height row.last) refl (holds row.needs (set_of at.facts)) refl (sym tries.applied ∙ n)
+  pub tried_on : (after : Spot) → q ≡ Some after → (may b f t (state_in at old) this ≡ true) × (state_in after new ≡ led f t (state_in at old) this)
+  tried_on after n = go (leb at.height row.last) refl (holds row.needs (set_of at.facts)) refl (sym tries.applied ∙ ap is_some n)
     where
-      lands : Lands row at old new q
-      lands = tries.on n
+      lands : Lands row at old new after
+      lands = subst (λ (o : Option Spot). IfSome o (Lands row at old new)) n tries.on
 
       go : (c : Bool) → leb at.height row.last ≡ c → (d : Bool) → holds row.needs (set_of at.facts) ≡ d → (c && d) ≡ true
-          → (may b f t (state_in at old) this ≡ true) × (state_at (set_of q.facts) new q.height ≡ led f t (state_in at old) this)
+          → (may b f t (state_in at old) this ≡ true) × (state_in after new ≡ led f t (state_in at old) this)
       go false e d g h = absurd (subst T (sym h) tt)
       go true e false g h = absurd (subst T (sym h) tt)
       go true e true g h =

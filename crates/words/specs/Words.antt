@@ -4,7 +4,8 @@ use Rattle.basics.specs.Lists.{rows}
 use Rattle.rules.specs.Limits.{most_actions, most_methods}
 use Rattle.rules.specs.Tables.{Header, Action, Method, Table}
 use Rattle.laws.specs.Valid.{Valid}
-use Rattle.facts.specs.Sets.{set_words, set_at, action_words}
+use Rattle.facts.specs.Sets.{set_words, set_of, set_at, action_words}
+use Rattle.words.specs.declared.Header.{Header as HeaderInCode}
 
 -- In a header the sets come after five numbers.
 abbrev pub start_word : ℕ
@@ -39,6 +40,19 @@ header_of w =
       start = get_or w 4 0;
       init = set_at w start_word;
       goal = set_at w goal_word;
+    }
+
+-- What the code's header says.
+abbrev pub header_read : HeaderInCode → Header
+header_read h =
+    record {
+      facts = h.facts;
+      actions = h.actions;
+      abstracts = h.abstracts;
+      methods = h.methods;
+      start = h.start;
+      init = set_of h.init;
+      goal = set_of h.goal;
     }
 
 -- The action in the words from b on.

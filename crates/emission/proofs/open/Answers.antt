@@ -1,25 +1,21 @@
+use mathlib.Core.Path.{refl}
 use native.Mathlib.Omega.{arith}
-use Rattle.rules.specs.Refusals.{whole_problem}
-use Rattle.rules.specs.Programs.{emit_input}
-use Rattle.opening.proofs.OpeningLaws.{goes_on}
-use Rattle.report.proofs.InputLaws.{last_part}
-use Rattle.emission.proofs.JobLaws.{refusal_does, problem_does}
+use Rattle.std.proofs.Common.{Ok, Err}
+use Rattle.std.proofs.lemmas.Result.{err_from_is_err_and}
+use Rattle.emission.proofs.JobLaws.{answered, refusal_does, problem_does}
 use Rattle.emission.proofs.open.Goals as goal
 
-pub returns-in-Refused : goal.returns-in-Refused
-unfolding emit_input whole_problem
-returns-in-Refused c =
-    let start = c.smaller-start in
+pub returns-in_err-open : goal.returns-in_err-open
+returns-in_err-open c =
     let s = c.args.input.now in
-    let opens = rw (c.byte-bound.ensures, c.byte-form.ensures, last_part start.result 2 s start.ensures) at c.«open».ensures in
-    refusal_does s _ _ _ _ (goes_on opens c.in-Refused.is _)
+    let opens = rw (c.byte-bound.ensures, c.byte-form.ensures, c.split.ensures.back) at c.in_err-open.ensures in
+    let told = err_from_is_err_and c.from_residual.result c.from_residual.ensures.1 in
+    rw (told.1, told.2) (refusal_does s _ _ _ (answered s c.«open».new.words (Err _) opens.answers))
 
-pub returns-in-Opened : goal.returns-in-Opened
-unfolding emit_input whole_problem
-returns-in-Opened c =
-    let start = c.smaller-start in
+pub returns : goal.returns
+returns c =
     let s = c.args.input.now in
-    let opens = rw (c.byte-bound.ensures, c.byte-form.ensures, last_part start.result 2 s start.ensures) at c.«open».ensures in
-    let usable = opens.known c.in-Opened.is in
-    rw (c.byte-bound.ensures, c.byte-form.ensures) (problem_does s _ _ _ _ (goes_on opens c.in-Opened.is _)
+    let opens = rw (c.byte-bound.ensures, c.byte-form.ensures, c.split.ensures.back) at c.in_ok-open.ensures in
+    let usable = opens.known refl in
+    rw (c.byte-bound.ensures, c.byte-form.ensures) (problem_does s _ _ _ _ (answered s c.«open».new.words (Ok tt) opens.answers)
     (record { held = usable.held; high = omega (arith, usable.high, c.byte-bound.ensures); filled = c.fill_figures.ensures }))

@@ -1,8 +1,5 @@
-use Rattle.kinds.proofs.FitLaws.{fits_short, fits_put}
+use borrow.Author.Rules.{rules}
 use Rattle.kinds.proofs.put_last.Goals as goal
 
-pub returns-then-part-size : goal.returns-then-part-size
-returns-then-part-size c = fits_short c.put-size.ensures c.args.part.now c.if-part-size.true
-
 pub returns : goal.returns
-returns c = fits_put c.put-size.ensures c.if-part-size.false c.put.ensures
+returns c = c.fit.ensures _ (λ old new r e. search rules)

@@ -8,13 +8,10 @@ use Rattle.least.proofs.least.Goals as goal
 
 pub settle-requires : goal.settle-requires
 settle-requires c =
-    let n = c.action_count in (
-      c.requires,
-      ones_kept c.args.form (table_of c.args.words.now) most_tasks n.result _ n.ensures
-          (omega (arith, c.requires.valid.head.actions, c.requires.valid.head.tasks)) c.put_ones.ensures,
-    )
+    let n = c.action_count in ones_kept c.args.form (table_of c.args.words.all.now) most_tasks n.result _ n.ensures
+    (omega (arith, n.ensures, c.args.words.held.valid.head.actions, c.args.words.held.valid.head.tasks)) (omega (arith, c.args.words.held.valid.head.actions, c.args.words.held.valid.head.tasks)) c.put_ones.ensures
 
 pub returns : goal.returns
 returns c =
     let v = c.settle.ensures in
-    c.start_bound.ensures ∙ sym (settled_least c.args.form (table_of c.args.words.now) _ c.requires.valid v.kept v.t)
+    c.start_bound.ensures ∙ sym (settled_least c.args.form (table_of c.args.words.all.now) _ c.args.words.held.valid v.kept v.settled)

@@ -1,24 +1,14 @@
 use mathlib.Core.Path.{refl, ◌∙◌}
 use native.Mathlib.Omega.{arith}
 use Rattle.lines.proofs.PlaceLaws.{told}
-use Rattle.line_ends.proofs.EndLaws.{fed_inside, fed_on}
 use Rattle.lines.proofs.LineLaws.{at_operator, at_other, at_comment}
 use Rattle.lines.proofs.line_at.Goals as goal
 
-pub bounds-s-at : goal.bounds-s-at
-bounds-s-at c = fed_inside c.requires
+pub returns-in-40 : goal.returns-in-40
+returns-in-40 c = told c.requires (c.operator.ensures ∙ at_operator _ _ _ refl c.in-40.is)
 
-pub operator-requires : goal.operator-requires
-operator-requires c = fed_on c.requires c.wide-c.ensures (λ h. omega (arith, c.if-c-eq40.true)) _ refl
+pub returns-in-59 : goal.returns-in-59
+returns-in-59 c = told c.requires (at_comment _ _ _ refl (λ h. omega (arith, h, c.in-59.is)) c.in-59.is _ c.feed_from.ensures.0)
 
-pub returns-then-c-eq40 : goal.returns-then-c-eq40
-returns-then-c-eq40 c = told c.requires (c.operator.ensures ∙ at_operator _ _ _ c.wide-c.ensures c.if-c-eq40.true)
-
-pub returns-then-c-ne59 : goal.returns-then-c-ne59
-returns-then-c-ne59 c = told c.requires (at_other _ _ _ c.wide-c.ensures c.if-c-eq40.false c.if-c-ne59.true)
-
-pub overflow_add-result : goal.overflow_add-result
-overflow_add-result c = omega (arith, c.feed_from-e.ensures.1)
-
-pub returns : goal.returns
-returns c = told c.requires (at_comment _ _ _ c.wide-c.ensures c.if-c-eq40.false c.if-c-ne59.false _ c.feed_from-e.ensures.0)
+pub returns-in_default : goal.returns-in_default
+returns-in_default c = told c.requires (at_other _ _ _ refl (λ h. omega arith) (λ h. omega arith))

@@ -1,5 +1,4 @@
 use mathlib.Core.Path.{◌≡◌}
-use Prim.Native.Nat.{◌≤◌, ◌-◌}
 use lib.ListN.{length, take}
 use Rattle.rules.specs.Reasons.{not_there}
 use Rattle.basics.specs.Lists.{rows}
@@ -9,7 +8,4 @@ use Rattle.words.specs.Words.{cell_of}
 use Rattle.methods.proofs.read_subtasks.Given as goal
 
 abbrev pub invariant-loop-j : goal.invariant-loop-j
-invariant-loop-j l = (l.j ≤ l.n) × (length l.words ≡ length l.initial.words) × (take l.b l.words ≡ take l.b l.initial.words) × (many (ranged l.s 0 l.hi not_there) l.j l.at ≡ got (rows (cell_of l.b l.words) l.j) l.p)
-
-abbrev pub decreases-loop-j : goal.decreases-loop-j
-decreases-loop-j l = l.n - l.j
+invariant-loop-j l = (length l.words ≡ length l.initial.words) × (take l.b l.words ≡ take l.b l.initial.words) × (many (ranged l.s 0 l.hi not_there) l.j l.at ≡ got (rows (cell_of l.b l.words) l.j) l.p)

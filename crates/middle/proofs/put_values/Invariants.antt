@@ -1,4 +1,4 @@
-use Prim.Native.Nat.{◌+◌, ◌*◌, ◌-◌, ◌≤◌}
+use Prim.Native.Nat.{◌+◌, ◌*◌, ◌≤◌}
 use Rattle.basics.specs.Lists.{upto}
 use Rattle.words.specs.Words.{table_of}
 use Rattle.text.specs.Puts.{Puts}
@@ -7,7 +7,7 @@ use Rattle.middle.proofs.put_values.Given as goal
 
 abbrev pub invariant-loop-v : goal.invariant-loop-v
 invariant-loop-v l =
-    (l.v ≤ l.n) × Puts l.initial.out l.at (upto (start_line (table_of l.words)) l.v) l.out l.next × (l.next ≤ l.at + 4 * l.v)
-
-abbrev pub decreases-loop-v : goal.decreases-loop-v
-decreases-loop-v l = l.n - l.v
+    record {
+      puts : Puts l.initial.out l.at (upto (start_line (table_of l.words.all.now)) l.v) l.out l.next;
+      low : l.next ≤ l.at + 4 * l.v;
+    }

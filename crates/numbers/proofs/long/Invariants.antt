@@ -1,9 +1,6 @@
-use Prim.Native.Nat.{◌-◌, ◌≤◌}
+use Prim.Native.Nat.{◌≤◌}
 use Rattle.numbers.proofs.GroupLaws.{Begun}
 use Rattle.numbers.proofs.long.Given as goal
 
 abbrev pub invariant-loop-j : goal.invariant-loop-j
 invariant-loop-j l = (1 ≤ l.j) × (l.j ≤ 9) × Begun l.s l.at l.j l.scale l.v
-
-abbrev pub decreases-loop-j : goal.decreases-loop-j
-decreases-loop-j l = 9 - l.j

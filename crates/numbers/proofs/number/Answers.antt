@@ -10,7 +10,7 @@ use Rattle.numbers.proofs.number.Goals as goal
 pub returns-then-a-lt128 : goal.returns-then-a-lt128
 returns-then-a-lt128 c =
     let a = c.args in
-    let w = c.wide-a in
+    let w = c.from-a in
     let k : get_or a.s.now a.at 0 < 128 = omega (arith, w.ensures, c.if-a-lt128.true) in
     ap (λ (n : ℕ). got n (a.at + 1)) w.ensures ∙ sym (one_group a.s.now a.at c.if-at-n.true k)
 
@@ -18,20 +18,20 @@ pub returns-then-zero : goal.returns-then-zero
 returns-then-zero c =
     let a = c.args in
     let s = a.s.now in
-    let w = c.wide-a in
-    let w2 = c.wide-b in
+    let w = c.from-a in
+    let w2 = c.from-b in
     let k : 128 ≤ get_or s a.at 0 = omega (arith, w.ensures, c.if-a-lt128.false) in
     let b = first_group s a.at c.if-at-n.true k in
     let l : get_or s (a.at + 1) 0 < 128 = omega (arith, w2.ensures, c.if-b-lt128.true) in
     let z : get_or s (a.at + 1) 0 ≡ 0 = sym w2.ensures ∙ c.if-zero.true in
-    sym (group_bad b c.if-next-n.true l (ap (sound 1) z ∙ sound_empty 1 (omega arith)))
+    rw c.at.ensures (sym (group_bad b c.if-next-n.true l (ap (sound 1) z ∙ sound_empty 1 (omega arith))))
 
 pub returns-then-b-lt128 : goal.returns-then-b-lt128
 returns-then-b-lt128 c =
     let a = c.args in
     let s = a.s.now in
-    let w = c.wide-a in
-    let w2 = c.wide-b in
+    let w = c.from-a in
+    let w2 = c.from-b in
     let k : 128 ≤ get_or s a.at 0 = omega (arith, w.ensures, c.if-a-lt128.false) in
     let b = first_group s a.at c.if-at-n.true k in
     let l : get_or s (a.at + 1) 0 < 128 = omega (arith, w2.ensures, c.if-b-lt128.true) in

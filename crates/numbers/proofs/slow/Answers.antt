@@ -1,5 +1,5 @@
 use Prim.Native.Nat.{ℕ, ◌+◌, ◌-◌}
-use mathlib.Core.Path.{◌≡◌, sym, ap, ◌∙◌}
+use mathlib.Core.Path.{◌≡◌, refl, sym, ap, ◌∙◌}
 use mathlib.Core.Bool.{true, false}
 use native.Mathlib.Omega.{arith}
 use lib.ListN.{get_or}
@@ -8,36 +8,34 @@ use Rattle.rules.specs.Numbers.{sound}
 use Rattle.laws.proofs.NumberLaws.{last_below, number_ends, number_long, number_got, sound_room}
 use Rattle.numbers.proofs.slow.Goals as goal
 
-pub returns-then-s-e : goal.returns-then-s-e
-returns-then-s-e c =
-    let a = c.args in
-    sym (number_ends a.s.now a.at c.last-e.result c.last-e.ensures c.if-s-e.true)
+pub returns-in_default : goal.returns-in_default
+returns-in_default c = let a = c.args in rw c.at.ensures (sym (number_ends a.s.now a.at _ refl c.in_default.ensures))
 
 pub value-requires : goal.value-requires
 value-requires c =
     let a = c.args in
-    let l = c.last-e in
-    let e = l.ensures in
-    let inside = c.if-s-e.false in
-    let b = last_below a.s.now a.at l.result e (omega (arith, inside)) in
-    let t : sound (l.result - a.at) (get_or a.s.now l.result 0) ≡ true =
-    sym (c.shortest.ensures ∙ ap (sound (l.result - a.at)) c.wide.ensures) ∙ c.if-shortest.true in
-    let r = sound_room (l.result - a.at) _ t b in
-    (omega (arith, e), omega (arith, inside), b, r.0, r.1)
+    let e = c.in-Some.e in
+    let f = c.in-Some.ensures in
+    let b = last_below a.s.now a.at e f.0 f.1 in
+    let t : sound (e - a.at) (get_or a.s.now e 0) ≡ true =
+    sym (c.shortest.ensures ∙ ap (sound (e - a.at)) c.from.ensures) ∙ c.if-shortest.true in
+    let r = sound_room (e - a.at) _ t b in
+    (omega (arith, f.0), f.1, b, r.0, r.1)
 
 pub returns-then-shortest : goal.returns-then-shortest
 returns-then-shortest c =
     let a = c.args in
-    let l = c.last-e in
-    let t : sound (l.result - a.at) (get_or a.s.now l.result 0) ≡ true =
-    sym (c.shortest.ensures ∙ ap (sound (l.result - a.at)) c.wide.ensures) ∙ c.if-shortest.true in
-    ap (λ (v : ℕ). got v (l.result + 1)) c.value.ensures
-    ∙ sym (number_got a.s.now a.at l.result l.ensures (omega (arith, c.if-s-e.false)) t)
+    let e = c.in-Some.e in
+    let f = c.in-Some.ensures in
+    let t : sound (e - a.at) (get_or a.s.now e 0) ≡ true =
+    sym (c.shortest.ensures ∙ ap (sound (e - a.at)) c.from.ensures) ∙ c.if-shortest.true in
+    ap (λ (v : ℕ). got v (e + 1)) c.value.ensures ∙ sym (number_got a.s.now a.at e f.0 f.1 t)
 
 pub returns-else-shortest : goal.returns-else-shortest
 returns-else-shortest c =
     let a = c.args in
-    let l = c.last-e in
-    let t : sound (l.result - a.at) (get_or a.s.now l.result 0) ≡ false =
-    sym (c.shortest.ensures ∙ ap (sound (l.result - a.at)) c.wide.ensures) ∙ c.if-shortest.false in
-    sym (number_long a.s.now a.at l.result l.ensures (omega (arith, c.if-s-e.false)) t)
+    let e = c.in-Some.e in
+    let f = c.in-Some.ensures in
+    let t : sound (e - a.at) (get_or a.s.now e 0) ≡ false =
+    sym (c.shortest.ensures ∙ ap (sound (e - a.at)) c.from.ensures) ∙ c.if-shortest.false in
+    rw c.at-else-shortest.ensures (sym (number_long a.s.now a.at e f.0 f.1 t))

@@ -11,7 +11,7 @@ pub loop-i-init : goal.loop-i-init
 loop-i-init c =
     let a = c.args in
     let h : a.e < length a.s.now = omega arith in
-    (omega arith, omega arith, c.wide-v.ensures ∙ sym (spell_one a.s.now a.e h (omega arith)), omega arith)
+    (omega arith, omega arith, c.from-v.ensures ∙ sym (spell_one a.s.now a.e h (omega arith)), omega arith)
 
 pub overflow_mul-v : goal.overflow_mul-v
 overflow_mul-v c =
@@ -23,7 +23,7 @@ pub overflow_add-v : goal.overflow_add-v
 overflow_add-v c =
     let l = c.loop-i in
     let a = c.args in
-    record { fits = room_fits (9 - (l.i - a.at)) l.v (c.wide.result % 128) (omega arith) (omega arith) (omega arith) }
+    record { fits = room_fits (9 - (l.i - a.at)) l.v (c.from.result % 128) (omega arith) (omega arith) (omega arith) }
 
 pub loop-i-preserved : goal.loop-i-preserved
 loop-i-preserved c =
@@ -34,8 +34,8 @@ loop-i-preserved c =
       omega arith,
       omega arith,
       omega (arith, spell_prev a.s.now a.e h l.i (omega arith) (omega arith)),
-      subst (λ (k : ℕ). l.v * 128 + c.wide.result % 128 < 2 * 128 ^ k) n
-          (room (9 - (l.i - a.at)) l.v (c.wide.result % 128) (omega arith) (omega arith)),
+      subst (λ (k : ℕ). l.v * 128 + c.from.result % 128 < 2 * 128 ^ k) n
+          (room (9 - (l.i - a.at)) l.v (c.from.result % 128) (omega arith) (omega arith)),
     )
 
 pub returns : goal.returns

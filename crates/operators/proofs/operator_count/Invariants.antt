@@ -1,5 +1,5 @@
 use mathlib.Core.Path.{◌≡◌}
-use Prim.Native.Nat.{◌+◌, ◌-◌, ◌*◌, ◌≤◌}
+use Prim.Native.Nat.{◌+◌, ◌*◌, ◌≤◌}
 use Rattle.basics.specs.Lists.{sum_to}
 use Rattle.rules.specs.Tables.{action_count, method_count}
 use Rattle.rules.specs.Progression.{mth}
@@ -9,9 +9,5 @@ use Rattle.operators.proofs.operator_count.Given as goal
 
 abbrev pub invariant-loop-k : goal.invariant-loop-k
 invariant-loop-k l =
-    (l.methods ≡ method_count (table_of l.words))
-    × (l.k ≤ l.methods)
-    × (l.count ≡ action_count (table_of l.words) * l.bound + sum_to (λ i. positions l.bound l.form (table_of l.words) (mth i)) l.k)
-
-abbrev pub decreases-loop-k : goal.decreases-loop-k
-decreases-loop-k l = l.methods - l.k
+    (l.k ≤ method_count (table_of l.words.all.now))
+    × (l.count ≡ action_count (table_of l.words.all.now) * l.bound + sum_to (λ i. positions l.bound l.form (table_of l.words.all.now) (mth i)) l.k)

@@ -17,7 +17,7 @@ loop-count-init c =
     let a = c.args in (
       c.width_of-width.ensures,
       c.action_count-actions.ensures,
-      subst (λ (j : Join). Joining (table_of a.words.now) (method (table_of a.words.now) a.k).subs j 0) (sym c.no_join-join.ensures)
+      subst (λ (j : Join). Joining (table_of a.words.all.now) (method (table_of a.words.all.now) a.k).subs j 0) (sym c.no_join-join.ensures)
           (joining_begins _ _),
     )
 
@@ -32,7 +32,7 @@ pub loop-count-preserved : goal.loop-count-preserved
 loop-count-preserved c =
     let a = c.args in
     let l = c.loop-count in
-    let t = table_of a.words.now in
+    let t = table_of a.words.all.now in
     let tasks = (method t a.k).subs in
     let task = c.subtask-task.ensures in
     let next = joining_more t tasks (join_read l.join) l.count l.invariant.2 (omega arith) (omega arith) in
@@ -43,4 +43,5 @@ loop-count-preserved c =
 pub returns : goal.returns
 returns c =
     let l = c.loop-count in
-    whole_prefix _ _ _ _ c.if-form-eq0.false (joining_ends _ _ _ _ l.invariant.2 (omega arith))
+    let e : l.count ≡ c.width_of-width.result = omega arith in
+    whole_prefix _ _ _ _ c.if-form-eq0.false (rw e at (joining_ends _ _ _ _ l.invariant.2 (omega arith)))

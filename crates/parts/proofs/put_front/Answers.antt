@@ -4,8 +4,8 @@ use Rattle.text.proofs.AppendLaws.{◌▸◌}
 use Rattle.text.proofs.PutLaws.{appended}
 use Rattle.parts.proofs.put_front.Goals as goal
 
-pub returns : goal.returns
+pub returns-clause-appends : goal.returns-clause-appends
 unfolding front_text
-returns c =
-    let first = appended c.put_preamble-first.ensures.puts (omega (arith, c.put_preamble-first.ensures.upper_bound, c.requires.2)) in
-    let last = appended c.put_middle.ensures.puts (omega (arith, first.size, c.put_variables-next.ensures.appends.size, c.put_preamble-first.ensures.upper_bound, c.put_variables-next.ensures.upper_bound, c.put_middle.ensures.upper_bound, c.requires.2)) in record { appends = first ▸ c.put_variables-next.ensures.appends ▸ last; upper_bound = omega (arith, c.put_preamble-first.ensures.upper_bound, c.put_variables-next.ensures.upper_bound, c.put_middle.ensures.upper_bound) }
+returns-clause-appends c =
+    let first = appended c.put_preamble-first.ensures.puts (omega (arith, c.put_preamble-first.ensures.upper_bound, c.requires.1)) in
+    let last = appended c.put_middle.ensures.puts (omega (arith, first.size, c.put_variables-next.ensures.appends.size, c.put_preamble-first.ensures.upper_bound, c.put_variables-next.ensures.upper_bound, c.put_middle.ensures.upper_bound, c.requires.1)) in first ▸ c.put_variables-next.ensures.appends ▸ last

@@ -15,22 +15,17 @@ returns-then-next-eq0 c =
     let r = c.part_of.ensures in
     record {
       says = part_says _ _ _ _ _ _ r
-          (first_part c.args.bound c.args.form (table_of c.args.words.now) _ _ c.if-next-eq0.true w.appends);
+          (first_part c.args.bound c.args.form (table_of c.args.words.all.now) _ _ c.if-next-eq0.true w.appends);
       moves = part_moves _ _ _ _ _ _ r (omega (arith, c.if-next-eq0.true)) (omega arith) (omega (arith, w.upper_bound, w.appends.size, c.requires.1));
       out_len_unchanged = w.appends.size;
     }
-
-pub returns-then-next-steps : goal.returns-then-next-steps
-returns-then-next-steps c =
-    let w = c.fill.ensures in
-    record { says = w.says; moves = record { some = w.moves.some; most = omega (arith, w.moves.most); size = w.moves.size }; out_len_unchanged = w.out_len_unchanged }
 
 pub returns : goal.returns
 returns c =
     let put = c.put-size.ensures in
     let r = c.part_of-2.ensures in
     let w = appended put (omega (arith, put.next, c.requires.1)) in
-    let t = table_of c.args.words.now in
+    let t = table_of c.args.words.all.now in
     let n = c.step_count-steps.ensures.value in record {
       says = part_says _ _ _ _ _ _ r
           (ap (λ (k : ℕ). upto (problem_piece c.args.bound c.args.form t) (k + 2)) n

@@ -8,4 +8,4 @@ use Rattle.placing.proofs.put.Goals as goal
 pub returns : goal.returns
 returns c =
     let a = c.args in
-    record { result_value = room_told (length a.part.now) 0 (chosen (sections_of a.bound a.form (table_of a.words.now)) a.index) c.put_section.ensures.result_value c.reply_for.ensures; part_after = c.put_section.ensures.part_after }
+    record { result_value = room_told (length a.part.now) 0 (chosen (sections_of a.bound a.form (table_of a.words.all.now)) a.index) c.put_section.ensures.result_value c.reply_for.ensures; part_after = c.put_section.ensures.part_after }

@@ -1,10 +1,11 @@
+use Rattle.std.proofs.Common.{rules}
 use mathlib.Core.Path.{sym, ap, ◌∙◌}
 use Prim.Native.Nat.{◌-◌}
 use borrow.Rule.Slice.PartMut.{put_mid}
 use lib.ListN.{length, take, drop}
 use Rattle.basics.specs.Answers.{after, length_of}
 use Rattle.rules.specs.Sections.{sections_of}
-use Rattle.rules.specs.Refusals.{chosen, room_for, section_for, one_section, written}
+use Rattle.rules.specs.Refusals.{chosen, room_for, section_for, one_section, opened, form_read, table_read, written}
 use Rattle.words.specs.Words.{table_of}
 use Rattle.laws.proofs.RefusalLaws.{kept}
 use Rattle.opening.proofs.OpeningLaws.{goes_on}
@@ -13,38 +14,38 @@ use Rattle.placing.proofs.write.Goals as goal
 
 pub measured-requires : goal.measured-requires
 measured-requires c =
-    let usable = c.«open».ensures.known c.in-Opened.is in
-    (usable.held, usable.low, usable.high)
+    let usable = c.«open».ensures.known c.in_ok-open.was in
+    (usable.low, usable.high)
 
 pub returns-then-text-from : goal.returns-then-text-from
-unfolding one_section
+unfolding one_section opened form_read table_read
 returns-then-text-from c =
     let a = c.args in
     let old = a.text.now in
     let x = chosen (sections_of a.bound a.form (table_of c.«open».new.words)) a.index in
-    let q = goes_on c.«open».ensures c.in-Opened.is (λ t. section_for a.bound a.form t a.index (length old) a.at) in
+    let q = goes_on c.«open».ensures c.in_ok-open.was (λ t. section_for a.bound a.form t a.index (length old) a.at) in
     record { result_value = c.measured.ensures ∙ sym (ap length_of q); text_after = sym (ap (written old a.at) q ∙ kept_past old a.at c.if-text-from.true x) }
 
 pub put-requires : goal.put-requires
 put-requires c =
-    let usable = c.«open».ensures.known c.in-Opened.is in
-    (usable.held, usable.low, usable.high)
+    let usable = c.«open».ensures.known c.in_ok-open.was in
+    (usable.low, usable.high)
 
-pub returns-in-Refused : goal.returns-in-Refused
-unfolding one_section
-returns-in-Refused c =
+pub returns-in_err-open : goal.returns-in_err-open
+unfolding one_section opened form_read table_read
+returns-in_err-open c =
     let a = c.args in
-    let q = goes_on c.«open».ensures c.in-Refused.is (λ t. section_for a.bound a.form t a.index (length a.text.now) a.at) in
-    record { result_value = sym (ap length_of q); text_after = kept a.text.now a.at _ q }
+    let q = goes_on c.«open».ensures c.in_err-open.was (λ t. section_for a.bound a.form t a.index (length a.text.now) a.at) in
+    record { result_value = search (rules, q); text_after = kept a.text.now a.at _ q }
 
-pub returns-else-text-from : goal.returns-else-text-from
-unfolding one_section
-returns-else-text-from c =
+pub returns : goal.returns
+unfolding one_section opened form_read table_read
+returns c =
     let a = c.args in
     let old = a.text.now in
     let x = chosen (sections_of a.bound a.form (table_of c.«open».new.words)) a.index in
     let l = c.if-text-from.false in
-    let e = goes_on c.«open».ensures c.in-Opened.is (λ t. section_for a.bound a.form t a.index (length old) a.at) in
+    let e = goes_on c.«open».ensures c.in_ok-open.was (λ t. section_for a.bound a.form t a.index (length old) a.at) in
     let q = part_room old a.at l x ∙ sym e in
     let done = c.put.ensures in record {
       result_value = done.result_value ∙ ap length_of q;

@@ -1,26 +1,24 @@
-use mathlib.Core.Path.{sym, ap, subst, ◌∙◌}
+use mathlib.Core.Path.{ap, ◌∙◌}
 use lib.ListN.{length}
-use Rattle.rules.specs.Checks.{verdict_of}
 use Rattle.rules.specs.Refusals.{written}
 use Rattle.rows.proofs.RowLaws.{row_ok}
-use Rattle.run.specs.Runs.{Few}
-use Rattle.step_list.proofs.StepListLaws.{prepared_steps}
-use Rattle.plan.proofs.NoteByteLaws.{notes_given}
+use Rattle.plan.proofs.NoteByteLaws.{notes_given, none_given}
 use borrow.Author.Rules.{rules}
 use Rattle.plan.proofs.judge.Goals as goal
 
-pub check-verdict-requires : goal.check-verdict-requires
-check-verdict-requires c = let p = c.requires in
+pub check-requires : goal.check-requires
+check-requires c = let p = c.requires in
     let rows = c.prepare.ensures in (
-      record { held = p.0; low = p.1; high = p.2; rows = rows; ok = row_ok p.0.valid p.2 rows },
-      p.3,
+      record { held = c.args.words.held; low = p.0; high = p.1; rows = rows; ok = row_ok c.args.words.held.valid p.1 rows },
+      p.2,
       search rules,
     )
 
-pub hand_out-requires : goal.hand_out-requires
-hand_out-requires c = record { held = (c.requires.0, prepared_steps c.prepare.ensures); few = c.check-verdict.ensures.few }
+pub returns-in_err-tally-clause-steps_after : goal.returns-in_err-tally-clause-steps_after
+returns-in_err-tally-clause-steps_after c = none_given _ _ _ _ c.in_err-tally.field-0.0 c.in_err-tally.ensures.result_value c.args.steps.now
 
-pub returns : goal.returns
-returns c = let e = c.hand_out.ensures in
-    let k = c.check-verdict in
-    let old = c.args.steps.now in record { few = (subst Few (sym e.value) k.ensures.few.0, ap verdict_of e.value ∙ k.ensures.result_value); steps_after = e.steps_after ∙ ap (written old 0) (notes_given _ _ _ _ _ k.result k.ensures.result_value k.ensures.notes_expand (length old)) }
+pub returns-clause-steps_after : goal.returns-clause-steps_after
+returns-clause-steps_after c =
+    let old = c.args.steps.now in
+    let check = c.in_ok-tally.ensures in
+    c.hand_out.ensures ∙ ap (written old 0) (notes_given _ _ _ _ _ c.in_ok-tally.tally check.result_value check.notes_expand (length old))

@@ -13,31 +13,27 @@ use Rattle.problem.proofs.method_at.Goals as goal
 
 pub loop-k-init : goal.loop-k-init
 unfolding sum_to
-loop-k-init c = (c.action_count-first.ensures, c.method_count-methods.ensures, omega arith, omega arith)
-
-pub overflow_add-step : goal.overflow_add-step
-overflow_add-step c = let v = c.requires.0.valid.head in omega (arith, v.actions, v.methods)
+loop-k-init c = (c.action_count-first.ensures, omega arith, omega arith)
 
 pub returns-then-left-count : goal.returns-then-left-count
 returns-then-left-count c =
     let a = c.args in
     let l = c.loop-k in
-    let t = table_of a.words.now in
+    let t = table_of a.words.all.now in
     subst (λ (m : ℕ). IsPlace a.bound a.form t (action_count t * a.bound + a.n) (m + l.k) l.left) (sym l.invariant.0)
-    (method_place a.bound a.form t a.n l.k l.left (omega (arith, l.invariant.1)) (omega (arith, c.method_positions-count.ensures)) l.invariant.3)
+    (method_place a.bound a.form t a.n l.k l.left (omega (arith, c.method_count-k-end.ensures, c.loop-k-test.true)) (omega (arith, c.method_positions-count.ensures)) l.invariant.2)
 
 pub loop-k-preserved : goal.loop-k-preserved
 loop-k-preserved c =
     let a = c.args in
     let l = c.loop-k in (
       l.invariant.0,
-      l.invariant.1,
       omega arith,
-      omega (arith, c.method_positions-count.ensures, sum_more (λ j. positions a.bound a.form (table_of a.words.now) (mth j)) l.k),
+      omega (arith, c.method_positions-count.ensures, sum_more (λ j. positions a.bound a.form (table_of a.words.all.now) (mth j)) l.k),
     )
 
 pub returns : goal.returns
 returns c =
     let a = c.args in
     let l = c.loop-k in
-    past_all a.bound a.form (table_of a.words.now) a.n l.k l.left (omega (arith, l.invariant.1)) l.invariant.3
+    past_all a.bound a.form (table_of a.words.all.now) a.n l.k l.left (omega (arith, c.method_count-k-end.ensures, l.invariant.1)) l.invariant.2

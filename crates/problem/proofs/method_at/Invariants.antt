@@ -1,5 +1,5 @@
 use mathlib.Core.Path.{◌≡◌}
-use Prim.Native.Nat.{◌+◌, ◌-◌, ◌≤◌}
+use Prim.Native.Nat.{◌+◌, ◌≤◌}
 use Rattle.basics.specs.Lists.{sum_to}
 use Rattle.rules.specs.Tables.{action_count, method_count}
 use Rattle.rules.specs.Progression.{mth}
@@ -9,10 +9,6 @@ use Rattle.problem.proofs.method_at.Given as goal
 
 abbrev pub invariant-loop-k : goal.invariant-loop-k
 invariant-loop-k l =
-    (l.first ≡ action_count (table_of l.words))
-    × (l.methods ≡ method_count (table_of l.words))
-    × (l.k ≤ l.methods)
-    × (l.n ≡ sum_to (λ j. positions l.bound l.form (table_of l.words) (mth j)) l.k + l.left)
-
-abbrev pub decreases-loop-k : goal.decreases-loop-k
-decreases-loop-k l = l.methods - l.k
+    (l.first ≡ action_count (table_of l.words.all.now))
+    × (l.k ≤ method_count (table_of l.words.all.now))
+    × (l.n ≡ sum_to (λ j. positions l.bound l.form (table_of l.words.all.now) (mth j)) l.k + l.left)

@@ -5,13 +5,13 @@ use Rattle.problem.proofs.section_count.Goals as goal
 
 pub overflow_add-result : goal.overflow_add-result
 overflow_add-result c =
-    omega (arith, operators_few c.args.bound c.args.form (table_of c.args.words.now) c.requires.0.valid c.requires.1)
+    omega (arith, operators_few c.args.bound c.args.form (table_of c.args.words.all.now) c.args.words.held.valid c.requires)
 
 pub overflow_add-result-2 : goal.overflow_add-result-2
 overflow_add-result-2 c =
-    omega (arith, operators_few c.args.bound c.args.form (table_of c.args.words.now) c.requires.0.valid c.requires.1)
+    omega (arith, operators_few c.args.bound c.args.form (table_of c.args.words.all.now) c.args.words.held.valid c.requires)
 
 pub returns : goal.returns
 returns c =
     let a = c.args in
-    omega (arith, sections_length a.bound a.form (table_of a.words.now))
+    omega (arith, sections_length a.bound a.form (table_of a.words.all.now))

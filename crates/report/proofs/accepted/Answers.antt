@@ -6,13 +6,11 @@ use Rattle.rules.specs.Programs.{accepted_line}
 use Rattle.report.proofs.ReportLaws.{four_words}
 use Rattle.report.proofs.accepted.Goals as goal
 
-pub returns : goal.returns
+pub returns-clause-appends : goal.returns-clause-appends
 unfolding accepted_line
-returns c =
+returns-clause-appends c =
     let a = c.args in
     let first = appended c.put-first.ensures (omega (arith, c.put-first.ensures.next, c.requires)) in
-    let feed = appended c.put.ensures (omega (arith, c.put-first.ensures.next, first.size, c.put_word-second.ensures.upper_bound, c.put_word-third.ensures.upper_bound, c.put_word-end.ensures.upper_bound, c.put_word-second.ensures.appends.size, c.put_word-third.ensures.appends.size, c.put_word-end.ensures.appends.size, c.put.ensures.next, c.requires)) in record {
-      appends = appends_is (four_words (bytes "accepted") (digits a.cost) (digits a.operators) (digits a.steps))
-          (first ▸ c.put_word-second.ensures.appends ▸ c.put_word-third.ensures.appends ▸ c.put_word-end.ensures.appends ▸ feed);
-      upper_bound = omega (arith, c.put-first.ensures.next, c.put_word-second.ensures.upper_bound, c.put_word-third.ensures.upper_bound, c.put_word-end.ensures.upper_bound, c.put.ensures.next);
-    }
+    let feed = appended c.put.ensures (omega (arith, c.put-first.ensures.next, first.size, c.put_word-second.ensures.upper_bound, c.put_word-third.ensures.upper_bound, c.put_word-end.ensures.upper_bound, c.put_word-second.ensures.appends.size, c.put_word-third.ensures.appends.size, c.put_word-end.ensures.appends.size, c.put.ensures.next, c.requires)) in
+    appends_is (four_words (bytes "accepted") (digits a.tally.cost) (digits a.tally.operators) (digits a.tally.steps))
+    (first ▸ c.put_word-second.ensures.appends ▸ c.put_word-third.ensures.appends ▸ c.put_word-end.ensures.appends ▸ feed)

@@ -1,14 +1,11 @@
 use Prim.Native.Nat.{ℕ, ◌-◌, ◌≤◌}
-use mathlib.Core.Path.{refl, sym, subst, ◌∙◌}
+use mathlib.Core.Path.{sym, subst, ◌∙◌}
 use native.Mathlib.Omega.{arith}
 use borrow.Rule.Slice.PartMut.{same_len_mid}
 use lib.ListN.{length}
 use Rattle.std.specs.Io.KnownBytes.{Consumes}
-use Rattle.report.proofs.ReadLaws.{read_none, read_more, front_more, front_within}
+use Rattle.report.proofs.ReadLaws.{read_more, front_more, front_within}
 use Rattle.report.proofs.read.Goals as goal
-
-pub loop-count-init : goal.loop-count-init
-loop-count-init g c = (omega arith, refl, read_none (g.R.Read.remaining c.args.reader.now))
 
 pub loop-count-preserved : goal.loop-count-preserved
 loop-count-preserved g c =

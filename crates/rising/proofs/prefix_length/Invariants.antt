@@ -1,5 +1,5 @@
 use mathlib.Core.Path.{◌≡◌}
-use Prim.Native.Nat.{◌-◌, ◌≤◌}
+use Prim.Native.Nat.{◌≤◌}
 use lib.ListN.{length}
 use Rattle.rules.specs.Tables.{action_count, method}
 use Rattle.laws.proofs.LeadingLaws.{Counted}
@@ -8,7 +8,4 @@ use Rattle.rising.proofs.prefix_length.Given as goal
 
 abbrev pub invariant-loop-count : goal.invariant-loop-count
 invariant-loop-count l =
-    (l.n ≡ length (method (table_of l.words) l.k).subs) × (l.count ≤ l.n) × Counted (action_count (table_of l.words)) (method (table_of l.words) l.k).subs l.count
-
-abbrev pub decreases-loop-count : goal.decreases-loop-count
-decreases-loop-count l = l.n - l.count
+    (l.n ≡ length (method (table_of l.words.all.now) l.k).subs) × (l.count ≤ l.n) × Counted (action_count (table_of l.words.all.now)) (method (table_of l.words.all.now) l.k).subs l.count

@@ -1,18 +1,7 @@
-use mathlib.Core.Path.{◌≡◌}
-use Prim.Native.Nat.{ℕ, ◌-◌, ◌≤◌}
-use lib.ListN.{length}
-use Rattle.rules.specs.Tables.{action_count}
+use Prim.Native.Nat.{ℕ}
 use Rattle.words.specs.Words.{table_of}
 use Rattle.rows.specs.Stores.{PreparedTo}
 use Rattle.rows.proofs.action_rows.Given as goal
 
 abbrev pub invariant-loop-k : goal.invariant-loop-k
-invariant-loop-k l =
-    (l.n ≡ action_count (table_of l.words))
-    × (l.k ≤ l.n)
-    × (length l.ops ≡ length l.initial.ops)
-    × (length l.cells ≡ length l.initial.cells)
-    × ((f : ℕ) → PreparedTo l.bound f (table_of l.words) l.k l.ops l.cells)
-
-abbrev pub decreases-loop-k : goal.decreases-loop-k
-decreases-loop-k l = l.n - l.k
+invariant-loop-k l = (f : ℕ) → PreparedTo l.bound f (table_of l.words.all.now) l.k l.ops l.cells

@@ -1,5 +1,5 @@
 use mathlib.Core.Path.{◌≡◌}
-use Prim.Native.Nat.{◌-◌, ◌≤◌}
+use Prim.Native.Nat.{◌-◌}
 use lib.ListN.{length, take, drop}
 use Rattle.rules.specs.Tables.{method}
 use Rattle.words.specs.Words.{table_of}
@@ -8,10 +8,7 @@ use Rattle.rows.proofs.put_rest.Given as goal
 
 abbrev pub invariant-loop-h : goal.invariant-loop-h
 invariant-loop-h l =
-    (l.h ≤ l.left)
-    × (length l.cells ≡ length l.initial.cells)
-    × (take l.c l.cells ≡ take l.c l.initial.cells)
-    × (stack_of (drop l.c l.cells) l.h ≡ drop (length (method (table_of l.words) l.k).subs - l.h) (method (table_of l.words) l.k).subs)
-
-abbrev pub decreases-loop-h : goal.decreases-loop-h
-decreases-loop-h l = l.left - l.h
+    record {
+      kept : take l.c l.cells ≡ take l.c l.initial.cells;
+      stack : stack_of (drop l.c l.cells) l.h ≡ drop (length (method (table_of l.words.all.now) l.k).subs - l.h) (method (table_of l.words.all.now) l.k).subs;
+    }

@@ -11,16 +11,15 @@ use Rattle.spots.proofs.try_row.Goals as goal
 pub returns-then-last-height : goal.returns-then-last-height
 returns-then-last-height c =
     let a = c.args in
-    let r = row_at a.ops.now a.cells.now a.at.row in
-    tries_not r a.at a.stack.now _ c.not_applied.ensures (tested_high r a.at a.stack.now (omega (arith, c.last-last.ensures, c.if-last-height.true)))
+    let r = row_at a.rows.ops.now a.rows.cells.now a.index in
+    tries_not r a.at a.stack.now (tested_high r a.at a.stack.now (omega (arith, c.last-last.ensures, c.if-last-height.true)))
 
 pub returns-then-not-holds : goal.returns-then-not-holds
 returns-then-not-holds c =
     let a = c.args in
-    let r = row_at a.ops.now a.cells.now a.at.row in
+    let r = row_at a.rows.ops.now a.rows.cells.now a.index in
     let h = c.holds.ensures ∙ ap (λ (n : ℕ). holds n (set_of a.at.facts)) c.needs-needs.ensures in
-    tries_not r a.at a.stack.now _ c.not_applied-then-not-holds.ensures
-    (tested_needs r a.at a.stack.now (omega (arith, c.last-last.ensures, c.if-last-height.false)) (sym h ∙ c.if-not-holds.true))
+    tries_not r a.at a.stack.now (tested_needs r a.at a.stack.now (omega (arith, c.last-last.ensures, c.if-last-height.false)) (sym h ∙ c.if-not-holds.true))
 
 pub left-requires : goal.left-requires
 left-requires c = c.requires.3.held.fits
@@ -31,12 +30,12 @@ overflow_add-high c = let ok = c.requires.3 in omega (arith, c.left.ensures, ok.
 pub returns : goal.returns
 returns c =
     let a = c.args in
-    let r = row_at a.ops.now a.cells.now a.at.row in
+    let r = row_at a.rows.ops.now a.rows.cells.now a.index in
     let l : a.at.height ≤ r.last = omega (arith, c.last-last.ensures, c.if-last-height.false) in
     let h = c.holds.ensures ∙ ap (λ (n : ℕ). holds n (set_of a.at.facts)) c.needs-needs.ensures in
     let push = c.push.ensures in
     let ok = c.requires.3 in
-    tries_on r a.at a.stack.now l (sym h ∙ c.if-not-holds.false) _ push.size _ _
+    tries_on r a.at a.stack.now l (sym h ∙ c.if-not-holds.false) _ push.size _
     (record {
       facts = c.changed-facts.ensures ∙ (λ i. changed (c.dels-dels.ensures i) (c.adds-adds.ensures i) (set_of a.at.facts));
       stack = ap (λ (n : ℕ). stack_of c.push.new.stack (a.at.height - 1 + n)) c.left.ensures ∙ push.stack;

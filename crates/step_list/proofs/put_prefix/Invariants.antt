@@ -1,4 +1,3 @@
-use Prim.Native.Nat.{◌-◌, ◌≤◌}
 use mathlib.Core.Path.{◌≡◌}
 use mathlib.Core.List.{map}
 use lib.ListN.{take}
@@ -11,7 +10,4 @@ use Rattle.step_list.proofs.put_prefix.Given as goal
 
 abbrev pub invariant-loop-j : goal.invariant-loop-j
 invariant-loop-j l =
-    (l.j ≤ l.p) × (l.out ≡ sets l.initial.out l.at (step_bytes (map act (take l.j (method (table_of l.words) l.k).subs))))
-
-abbrev pub decreases-loop-j : goal.decreases-loop-j
-decreases-loop-j l = l.p - l.j
+    l.out ≡ sets l.initial.out l.at (step_bytes (map act (take l.j (method (table_of l.words.all.now) l.k).subs)))

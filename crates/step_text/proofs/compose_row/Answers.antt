@@ -1,18 +1,15 @@
+use mathlib.Core.Path.{◌∙◌}
 use native.Mathlib.Omega.{arith}
 use Rattle.rows.specs.Rows.{row_at}
-use Rattle.step_text.proofs.StepLaws.{fit_as, drawn_as}
+use Rattle.step_text.proofs.StepLaws.{fit_as, row_text_as}
 use Rattle.step_text.proofs.compose_row.Goals as goal
 
 pub compose-requires : goal.compose-requires
-compose-requires c =
-    let fit = c.requires.held.1 in
-    (fit_as c.args.i _ _ _ c.fact_count-top.ensures c.task_count-free.ensures (omega (arith, c.label_of-label.ensures.low, fit.number)) fit, c.requires.blank)
+compose-requires g c =
+    let fit = c.requires.held in
+    (omega (arith, c.args.t.now.small), (fit_as c.args.i _ _ _ c.fact_count-top.ensures c.task_count-free.ensures (omega (arith, c.label_of-label.ensures.low, fit.number)) fit, c.requires.room.0, c.requires.room.1))
 
-pub shape_of-t : goal.shape_of-t
-shape_of-t c = c.compose.ensures.count_bound.1
-
-pub returns : goal.returns
-returns c =
+pub returns-clause-text : goal.returns-clause-text
+returns-clause-text g c p =
     let a = c.args in
-    let drawn = c.compose.ensures in
-    record { drawn = drawn_as (row_at a.ops.now a.cells.now 0) c.fact_count-top.ensures c.task_count-free.ensures c.label_of-label.ensures.text drawn.drawn; count_bound = drawn.count_bound }
+    c.compose.ensures.text p ∙ row_text_as (row_at a.rows.ops.now a.rows.cells.now 0) p c.fact_count-top.ensures c.task_count-free.ensures c.label_of-label.ensures.text

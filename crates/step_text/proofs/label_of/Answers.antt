@@ -10,12 +10,12 @@ use Rattle.step_text.proofs.label_of.Goals as goal
 pub returns-then-i-actions : goal.returns-then-i-actions
 returns-then-i-actions c =
     let a = c.args in
-    let step = step_action (table_of a.words.now) a.i (omega (arith, c.action_count-actions.ensures, c.if-i-actions.true)) in
+    let step = step_action (table_of a.words.all.now) a.i (omega (arith, c.action_count-actions.ensures, c.if-i-actions.true)) in
     record { text = sym (ap name_of step); low = omega arith }
 
 pub returns : goal.returns
 returns c =
     let a = c.args in
     let n = c.action_count-actions.ensures in
-    let step = step_past (table_of a.words.now) a.i (omega (arith, n, c.if-i-actions.false)) ∙ ap (λ (n : ℕ). mth (a.i - n)) (sym n) in
+    let step = step_past (table_of a.words.all.now) a.i (omega (arith, n, c.if-i-actions.false)) ∙ ap (λ (n : ℕ). mth (a.i - n)) (sym n) in
     record { text = sym (ap name_of step); low = omega arith }

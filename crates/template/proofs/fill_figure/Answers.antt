@@ -22,4 +22,4 @@ pub returns : goal.returns
 returns c =
     let n = c.args.n in
     let put = c.put_four-2.ensures in
-    record { appends = appends_is (figure_three n (omega arith) ∙ rw (sym c.ascii-2.ensures, sym c.ascii-3.ensures, sym c.ascii-4.ensures)) put.appends; value = put.value }
+    record { appends = appends_is (figure_three n (omega arith) ∙ rw (sym c.ascii-hundreds.ensures, sym c.ascii-tens.ensures, sym c.ascii-2.ensures)) put.appends; value = put.value }

@@ -1,7 +1,6 @@
-use native.Mathlib.Omega.{arith}
 use Rattle.text.proofs.PutLaws.{◌▹◌}
 use Rattle.variables.proofs.put_line.Goals as goal
 
-pub returns : goal.returns
-returns c =
-    record { puts = c.put_field-next.ensures.puts ▹ c.put.ensures; upper_bound = omega (arith, c.put_field-next.ensures.upper_bound, c.put.ensures.next) }
+pub returns-clause-puts : goal.returns-clause-puts
+returns-clause-puts c =
+    c.put_field-next.ensures.puts ▹ c.put.ensures

@@ -1,4 +1,4 @@
-use Prim.Native.Nat.{◌+◌, ◌*◌, ◌-◌, ◌≤◌}
+use Prim.Native.Nat.{◌+◌, ◌*◌, ◌≤◌}
 use Rattle.basics.specs.Lists.{upto}
 use Rattle.text.specs.Puts.{Puts}
 use Rattle.variables.specs.Variables.{labelled}
@@ -6,7 +6,7 @@ use Rattle.variables.proofs.put_names.Given as goal
 
 abbrev pub invariant-loop-k : goal.invariant-loop-k
 invariant-loop-k l =
-    (l.k ≤ l.n) × Puts l.initial.out l.at (upto (labelled l.s) l.k) l.out l.next × (l.next ≤ l.at + 7 * l.k)
-
-abbrev pub decreases-loop-k : goal.decreases-loop-k
-decreases-loop-k l = l.n - l.k
+    record {
+      puts : Puts l.initial.out l.at (upto (labelled l.s) l.k) l.out l.next;
+      low : l.next ≤ l.at + 7 * l.k;
+    }

@@ -9,26 +9,23 @@ use Rattle.variables.specs.Variables.{variable, position_names}
 use Rattle.variables.proofs.VariableLaws.{fact_variable, top_variable, position_variable}
 use Rattle.variables.proofs.put_variable.Goals as goal
 
-pub returns-then-v-facts : goal.returns-then-v-facts
-returns-then-v-facts c =
+pub returns-then-v-facts-clause-puts : goal.returns-then-v-facts-clause-puts
+returns-then-v-facts-clause-puts c =
     let a = c.args in
-    let t = table_of a.words.now in
+    let t = table_of a.words.all.now in
     let l : a.v < fact_count t = omega (arith, c.fact_count-facts.ensures) in
-    record { puts = puts_is (fact_variable a.bound t a.v l) c.put_fact_variable.ensures.puts; upper_bound = c.put_fact_variable.ensures.upper_bound }
+    puts_is (fact_variable a.bound t a.v l) c.put_fact_variable.ensures.puts
 
-pub returns-then-v-facts-2 : goal.returns-then-v-facts-2
-returns-then-v-facts-2 c =
+pub returns-then-v-facts-2-clause-puts : goal.returns-then-v-facts-2-clause-puts
+returns-then-v-facts-2-clause-puts c =
     let a = c.args in
-    let t = table_of a.words.now in
+    let t = table_of a.words.all.now in
     let e : a.v ≡ fact_count t = omega (arith, c.fact_count-facts.ensures) in
-    record { puts = puts_is (top_variable a.bound t a.v e) c.put_top_variable.ensures.puts; upper_bound = c.put_top_variable.ensures.upper_bound }
+    puts_is (top_variable a.bound t a.v e) c.put_top_variable.ensures.puts
 
-pub returns : goal.returns
-returns c =
+pub returns-clause-puts : goal.returns-clause-puts
+returns-clause-puts c =
     let a = c.args in
-    let t = table_of a.words.now in
-    let l : fact_count t < a.v = omega (arith, c.fact_count-facts.ensures) in record {
-      puts = puts_is (position_variable a.bound t a.v l ∙ ap (λ (n : ℕ). spell_variable (variable a.v (position_names n))) (sym c.task_count.ensures))
-          c.put_position_variable.ensures.puts;
-      upper_bound = c.put_position_variable.ensures.upper_bound;
-    }
+    let t = table_of a.words.all.now in
+    let l : fact_count t < a.v = omega (arith, c.fact_count-facts.ensures) in puts_is (position_variable a.bound t a.v l ∙ ap (λ (n : ℕ). spell_variable (variable a.v (position_names n))) (sym c.task_count.ensures))
+    c.put_position_variable.ensures.puts

@@ -4,14 +4,12 @@ use Rattle.text.proofs.AppendLaws.{appends_is}
 use Rattle.rules.specs.Programs.{told, accepted_line, check_output}
 use Rattle.verifying.proofs.put_line.Goals as goal
 
-pub returns-in-Accepted : goal.returns-in-Accepted
+pub returns-in-Ok-clause-appends : goal.returns-in-Ok-clause-appends
 unfolding check_output
-returns-in-Accepted c =
-    let p = c.accepted in
-    record { appends = appends_is (ap (told accepted_line) (sym c.decide.ensures.0 ∙ ap verdict_of c.in-Accepted.is)) p.ensures.appends; upper_bound = (p.ensures.upper_bound, c.decide.ensures.1) }
+returns-in-Ok-clause-appends c =
+    appends_is (ap (told accepted_line) (sym c.decide.ensures.0 ∙ ap verdict_of c.in-Ok.is)) c.accepted.ensures.appends
 
-pub returns-in-Refused : goal.returns-in-Refused
+pub returns-in-Err-clause-appends : goal.returns-in-Err-clause-appends
 unfolding check_output
-returns-in-Refused c =
-    let p = c.refused in
-    record { appends = appends_is (ap (told accepted_line) (sym c.decide.ensures.0 ∙ ap verdict_of c.in-Refused.is)) p.ensures.appends; upper_bound = (p.ensures.upper_bound, c.decide.ensures.1) }
+returns-in-Err-clause-appends c =
+    appends_is (ap (told accepted_line) (sym c.decide.ensures.0 ∙ ap verdict_of c.in-Err.is)) c.refused.ensures.appends

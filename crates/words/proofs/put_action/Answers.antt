@@ -1,14 +1,10 @@
 use mathlib.Core.Path.{ap, ◌∙◌}
 use mathlib.Core.List.{List}
 use Prim.Native.Nat.{ℕ, ◌+◌}
-use native.Mathlib.Omega.{arith}
-use lib.ListN.{set, length-set}
+use lib.ListN.{set}
 use Rattle.facts.specs.Sets.{set_of, action_read}
 use Rattle.words.proofs.PutLaws.{put_action}
 use Rattle.words.proofs.put_action.Goals as goal
-
-pub shape_of-words : goal.shape_of-words
-shape_of-words c = simp length-set (omega arith)
 
 pub returns : goal.returns
 returns c =

@@ -4,4 +4,4 @@ use Rattle.rules.specs.Checks.{cost_of}
 use Rattle.console.proofs.checking.ildorzhen_check_cost.Goals as goal
 
 pub returns : goal.returns
-returns c = c.verdict_cost.ensures ∙ ap (value_of cost_of) c.verdict.ensures.1
+returns c = c.cost.ensures ∙ ap (value_of cost_of) c.verdict.ensures.1

@@ -4,4 +4,4 @@ use Rattle.rules.specs.Checks.{operators_in}
 use Rattle.console.proofs.checking.ildorzhen_check_operators.Goals as goal
 
 pub returns : goal.returns
-returns c = c.verdict_operators.ensures ∙ ap (value_of operators_in) c.verdict.ensures.1
+returns c = c.operators.ensures ∙ ap (value_of operators_in) c.verdict.ensures.1

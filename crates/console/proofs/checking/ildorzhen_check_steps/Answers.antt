@@ -4,4 +4,4 @@ use Rattle.rules.specs.Checks.{steps_in}
 use Rattle.console.proofs.checking.ildorzhen_check_steps.Goals as goal
 
 pub returns : goal.returns
-returns c = c.verdict_steps.ensures ∙ ap (value_of steps_in) c.verdict.ensures.1
+returns c = c.steps.ensures ∙ ap (value_of steps_in) c.verdict.ensures.1
