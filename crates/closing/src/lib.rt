@@ -16,7 +16,7 @@ use words::Words;
 pub fn conclude(words: Words, t: Progress, lines: u64) -> Result<Tally, Refusal>
     requires { ProgressOk t }
     ensures few { Few result }
-    ensures by_index { (cells : List ℕ) → verdict_of result ≡ finish (table_of words.entry.all.now) (check_at lines (point_of t cells)) }
+    ensures verdict { (cells : List ℕ) → verdict_of result ≡ finish (table_of words.entry.all.now) (check_at lines (point_of t cells)) }
 {
     let left = t.height != 0;
     if left {

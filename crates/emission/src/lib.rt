@@ -64,7 +64,7 @@ fn send_parts<P: Print>(
 fn open_read(buffer: &[u8], input: Input, words: &mut [u64], figures: &mut [u8]) -> Job
     requires most_emit_input_in_bounds { (most_emit_input ≤ length buffer.now) × (count_of input ≤ length buffer.now) }
     requires table_words_in_bounds { (table_words ≤ length words.old) × (figure_bytes ≤ length figures.old) }
-    ensures by_index { (s : List ℕ) → ReadFrom s buffer.now input → Does (emit_output s) result words.new figures.new }
+    ensures any_input { (s : List ℕ) → ReadFrom s buffer.now input → Does (emit_output s) result words.new figures.new }
     ensures stands { Stands result words.new figures.new }
 {
     open(input.of(buffer), words, figures)

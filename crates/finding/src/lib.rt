@@ -70,7 +70,7 @@ pub fn answer<P: Print>(printer: &P, buffer: &[u8], input: Input) -> io::Result<
 // All that is written of the input from which the buffer was filled, as one part.
 fn put_part(buffer: &[u8], input: Input, out: &mut [u8]) -> Part
     requires { (most_find_input ≤ length buffer.now) × (count_of input ≤ length buffer.now) × (most_found_bytes ≤ length out.old) }
-    ensures by_index { (s : List ℕ) → ReadFrom s buffer.now input → take (size_of result) out.new ≡ find_output s }
+    ensures any_input { (s : List ℕ) → ReadFrom s buffer.now input → take (size_of result) out.new ≡ find_output s }
     ensures result_value { (next_of result ≡ 1) × (size_of result ≤ length out.new) × (length out.new ≡ length out.old) }
 {
     let size = put_text(input.of(buffer), out);

@@ -10,7 +10,7 @@ ghost use Rattle.words.specs.Words.{table_of};
 use rules::limits::{MOST_BOUND, MOST_TASKS};
 use words::Words;
 
-// A bound above all, where none is known: `unknown` of rules' LeastBounds.
+// A bound above all, where none is known: `unknown` of rules' LeastBounds, in bytes as they are there.
 const UNKNOWN: u8 = MOST_BOUND as u8 + 1;
 
 const TASKS: usize = MOST_TASKS as usize;

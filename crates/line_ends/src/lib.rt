@@ -9,7 +9,6 @@ const LINE_FEED: u8 = b'\n';
 const CARRIAGE_RETURN: u8 = b'\r';
 
 // How many bytes end an operator's line at a place. The line feed comes first: it is the usual end.
-// By hand, since a feed comes: `position` would ask at each byte whether the text ends.
 #[tactic(auto, using(crate::proofs::EndLaws::fed_inside, crate::proofs::EndLaws::fed_on), unfolding(crate::specs::Ends::end_bytes))]
 pub fn end_bytes(s: &[u8], at: usize) -> Option<usize>
     requires { Fed s.now at }
@@ -22,7 +21,7 @@ pub fn end_bytes(s: &[u8], at: usize) -> Option<usize>
     }
 }
 
-// The place of the first line feed from `at` on. One comes, so that no end is tested.
+// The place of the first line feed from `at` on. By hand, since one comes: `position` would ask at each byte whether the text ends.
 #[tactic(auto, using(crate::proofs::EndLaws::fed_inside, crate::proofs::EndLaws::fed_on, crate::proofs::EndLaws::feed_stop, crate::proofs::EndLaws::feed_more))]
 pub fn feed_from(s: &[u8], at: usize) -> usize
     requires { Fed s.now at }

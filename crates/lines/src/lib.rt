@@ -77,7 +77,7 @@ fn operator(s: &[u8], at: usize) -> Option<Line>
         number,
         position,
     };
-    // Each end has its way on, so that no place is computed from a count.
+    // Each end has its way on, and no `?`: with it the ends are joined and the place is computed from a count, three in a hundred instructions more.
     match line_ends::end_bytes(s, bracket + 1) {
         None => None,
         Some(1) => Some(Line::Operator(operator, bracket + 2)),

@@ -11,7 +11,7 @@ ghost use Rattle.listing.specs.Listings.{hold_bytes, change_bytes, line_where, l
 
 use facts::Set;
 
-// What a list says of each of its facts: that it holds, or how it changes, by the facts that are needed and those that are deleted.
+// What a list says of each of its facts, an enum and no closure, since contracts say the bytes of both: that it holds, or how it changes, by the facts that are needed and those that are deleted.
 #[derive(Clone, Copy)]
 pub enum Says {
     Holds,

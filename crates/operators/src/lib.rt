@@ -39,7 +39,7 @@ pub fn prefix_of(words: Words, form: u64, k: usize) -> Prefix
     Prefix { join, count: width }
 }
 
-// The highest position of a method that leaves r tasks, 0 where there is none.
+// The highest position of a method that leaves r tasks, 0 where there is none: document 01's number (rules Operators.highest).
 pub fn highest_position(dead: bool, bound: u64, r: u64) -> u64
     requires { bound ≤ most_bound }
     ensures { result ≡ cond dead 0 (highest bound r) }

@@ -16,7 +16,7 @@ pub struct Found {
     pub applied: u64,
 }
 
-// Whatever the result is.
+// A refusal's number and place, whatever the result would be.
 pub fn number<T: Copy>(answer: Result<T, Refusal>) -> u64
     ensures { result ≡ number_of (answer_of (λ x. x) answer) }
 {
@@ -41,6 +41,7 @@ pub fn value(reply: Result<u64, Refusal>) -> u64
     reply.unwrap_or(0)
 }
 
+// A number of a verdict and of a plan found, by its name: C has a call for each.
 pub fn cost(verdict: Result<Tally, Refusal>) -> u64
     ensures { result ≡ value_of cost_of (verdict_of verdict) }
 {

@@ -118,6 +118,7 @@ fn put_word(out: &mut [u8], at: usize, n: u64) -> usize
     text::put_number(out, next, n)
 }
 
+// By hand into lent bytes, here and below: there is no heap, and the contracts say each byte.
 pub fn accepted(out: &mut [u8], tally: Tally) -> usize
     requires { line_room ≤ length out.old }
     ensures appends { Appends out.old 0 (accepted_line (tally_of tally)) out.new result }

@@ -1,4 +1,4 @@
--- Document 01, as document 02 changes it, as definitions, a module a chapter. Nothing here is about code.
+-- Document 01, as document 02 changes it, as definitions, a module a chapter. Of code it knows the reasons' numbers (ReasonNumbers) and how a verdict is read (Checks).
 pub mod Limits
 pub mod Reasons
 pub mod ReasonNumbers

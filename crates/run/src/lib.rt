@@ -54,10 +54,10 @@ pub fn turn(
     pos: u64,
 ) -> Result<Progress, Reason>
     requires stack_len { (length stack.old ≡ stack_cells) × ProgressOk t }
-    requires operators_lt_most_operators { t.operators < most_operators }
+    requires few_operators { t.operators < most_operators }
     requires row_ok { RowOk rows.ops.now rows.cells.now index }
     ensures stack_after { turned_of t result stack.new ≡ step_row (row_at rows.entry.ops.now rows.entry.cells.now index) pos (point_of t stack.old) }
-    ensures stack_len_2 { (length stack.new ≡ stack_cells) × IfOk result ProgressOk }
+    ensures sized { (length stack.new ≡ stack_cells) × IfOk result ProgressOk }
     ensures stack_kept { OnErr result (stack.new ≡ stack.old) }
 {
     if pos < 1 {
@@ -119,9 +119,9 @@ pub fn operate(
 ) -> Result<Applied, Reason>
     requires ready { Ready bound form words.all.now rows.ops.now rows.cells.now }
     requires stack_len { (length stack.old ≡ stack_cells) × ProgressOk t }
-    requires operators_lt_most_operators { t.operators < most_operators }
+    requires few_operators { t.operators < most_operators }
     ensures stack_after { applied_of t result stack.new ≡ document_step bound form (table_of words.entry.all.now) (operator_of operator) (point_of t stack.old) }
-    ensures stack_len_2 { (length stack.new ≡ stack_cells) × IfOk result (λ a. ProgressOk a.progress) }
+    ensures sized { (length stack.new ≡ stack_cells) × IfOk result (λ a. ProgressOk a.progress) }
     ensures stack_kept { OnErr result (stack.new ≡ stack.old) }
     ensures row_of { IfOk result (λ a. RowOf (table_of words.entry.all.now) (step_of operator.kind operator.number) a.row) }
 {
@@ -162,7 +162,7 @@ pub struct Run {
 // The operator of row `index` at a position, on a run by value.
 pub fn step(run: Run, rows: Rows, index: usize, pos: u64) -> Result<Run, Reason>
     requires progress_ok { ProgressOk run.progress }
-    requires operators_lt_most_operators { run.progress.operators < most_operators }
+    requires few_operators { run.progress.operators < most_operators }
     requires row_ok { RowOk rows.ops.now rows.cells.now index }
     ensures result_value { stepped_of run result ≡ step_row (row_at rows.entry.ops.now rows.entry.cells.now index) pos (run_point run) }
     ensures bound_value { IfOk result (λ r. SameRun run r × ProgressOk r.progress) }

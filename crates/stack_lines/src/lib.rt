@@ -10,6 +10,8 @@ ghost use Rattle.stack_lines.specs.StackLines.{top_stays, task_stays, top_moves,
 use rows::{Rows, row};
 use template::Template;
 
+// Four writers, since each has its own words.
+
 // The top, where one task is left and it stays.
 pub fn top_stays<const B: usize, const N: usize>(t: &mut Template<B, N>, top: u64, stay: u64)
     requires { Room (top_stays top stay) t.old × (top ≤ most_facts) }

@@ -18,7 +18,7 @@ use rows::{Rows, row};
 use template::{MOST_NUMBERS, TEMPLATE_BYTES, Template};
 use words::Words;
 
-// The letter and the number of a step's name.
+// The letter and the number of a step's name, as compose::compose takes them.
 #[derive(Clone, Copy)]
 struct Label {
     letter: u8,

@@ -1,5 +1,5 @@
 // Text that is composed once and rendered at each position. Writers here move a chunk of bytes at a time, so they may also
-// change as many bytes after what they write; `put_exactly` alone changes none.
+// change as many bytes after what they write; `Template::put_exactly` alone changes none.
 #![tactic(auto)]
 
 ghost use Rattle.std.specs.Prelude.{◌≡◌, [], ◌∷◌, ◌++◌, ℕ, ◌+◌, ◌*◌, ◌-◌, ◌^◌, ◌≤◌, ◌<◌, length, take, drop};
@@ -158,7 +158,7 @@ impl<const BYTES: usize, const NUMBERS: usize> Template<BYTES, NUMBERS> {
     pub fn number(&mut self, o: usize)
         requires { (self.old.count < NUMBERS) × (o ≤ most_offset) }
         ensures text { (p : ℕ) → rendered self.new p ≡ rendered self.old p ++ digits (p + o) }
-        ensures at_value { (self.new.at ≡ self.old.at) × (self.new.count ≡ self.old.count + 1) }
+        ensures at_value { (self.new.at ≡ self.old.at) × (self.new.from ≡ self.old.at) × (self.new.count ≡ self.old.count + 1) }
     {
         let j = self.count;
         self.numbers[j] = Number {

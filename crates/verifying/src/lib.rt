@@ -47,7 +47,7 @@ impl<'a> Asked<'a> {
     }
 }
 
-// What the program does with what it has read into the buffer.
+// What the program does with what it has read into the buffer. `finding` has the like, over another input and another text.
 pub fn answer<P: Print>(printer: &P, buffer: &[u8], input: Input) -> io::Result<()>
     requires { (most_check_input ≤ length buffer.now) × (count_of input ≤ length buffer.now) }
 {
@@ -60,7 +60,7 @@ pub fn answer<P: Print>(printer: &P, buffer: &[u8], input: Input) -> io::Result<
 // All that is written of the input from which the buffer was filled, as one part.
 fn put_part(buffer: &[u8], input: Input, out: &mut [u8]) -> Part
     requires { (most_check_input ≤ length buffer.now) × (count_of input ≤ length buffer.now) × (line_room ≤ length out.old) }
-    ensures by_index { (s : List ℕ) → ReadFrom s buffer.now input → take (size_of result) out.new ≡ check_output s }
+    ensures any_input { (s : List ℕ) → ReadFrom s buffer.now input → take (size_of result) out.new ≡ check_output s }
     ensures result_value { (next_of result ≡ 1) × (size_of result ≤ length out.new) × (length out.new ≡ length out.old) }
 {
     let size = put_line(input.of(buffer), out);

@@ -28,7 +28,7 @@ loop-at-preserved c =
     let a = c.in-Ok.applied in
     let applied = rw c.in-Ok.is at c.operate.ensures in
     let n = operator_counts g h c.operate.new.stack a applied.stack_after in (
-      operator_on g h c.operate.new.stack a applied.stack_after applied.stack_len_2.0 applied.stack_len_2.1,
+      operator_on g h c.operate.new.stack a applied.stack_after applied.sized.0 applied.sized.1,
       noting_operator l.invariant.1 h applied.row_of (omega (arith, g.few, h.onward, h.within, c.requires.1)) n.operators n.steps,
     )
 
@@ -38,6 +38,6 @@ returns-then-at-text-clause-result_value c = rw c.at-then-at-text.ensures (cut_o
 pub returns : goal.returns
 returns c = let l = c.loop-at in
     let g = l.invariant.0 in
-    let e = c.conclude.ensures.by_index l.stack in
+    let e = c.conclude.ensures.verdict l.stack in
     let n = noting_ends l.invariant.1 c.if-at-text.false (omega (arith, g.few, g.within, c.requires.1)) c.conclude.result l.lines (point_of l.run l.stack) refl refl e in
     record { result_value = e ∙ ends g c.if-at-text.false; few = (c.conclude.ensures.few, n.0); notes_expand = n.1 }

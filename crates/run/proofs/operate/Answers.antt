@@ -47,7 +47,7 @@ returns c =
     let found = same_row o.kind o.number c.action_count-actions.ensures c.method_count-methods.ensures c.row_index.ensures c.in-Some.is in
     record {
       stack_after = c.in_ok-progress.ensures.stack_after ∙ by_row c.requires.ready.rows o (point_of c.args.t c.args.stack.now) found;
-      stack_len_2 = c.in_ok-progress.ensures.stack_len_2;
+      sized = c.in_ok-progress.ensures.sized;
       stack_kept = tt;
       row_of = (row_found c.requires.ready.rows o.number o.kind found).its;
     }

@@ -52,6 +52,6 @@ returns c =
     let ok = c.requires.row_ok in record {
       stack_after = ap (λ (p : Point). record { number = 0; point = p }) (landed_point c.landed.ensures a.stack.now _ push)
           ∙ row_done row a.pos a.t a.stack.now c.if-pos-lt1.false g q top (sym h ∙ c.if-not-holds.false);
-      stack_len_2 = (push.size ∙ c.requires.stack_len.0, landed_ok c.landed.ensures c.requires.stack_len.1 c.requires.operators_lt_most_operators ok.steps ok.cost (omega (arith, g, q, ok.height)));
+      sized = (push.size ∙ c.requires.stack_len.0, landed_ok c.landed.ensures c.requires.stack_len.1 c.requires.few_operators ok.steps ok.cost (omega (arith, g, q, ok.height)));
       stack_kept = tt;
     }

@@ -5,8 +5,8 @@ use Rattle.report.proofs.CutLaws.{check_read}
 use Rattle.report.proofs.PartLaws.{only_sent}
 use Rattle.verifying.proofs.put_part.Goals as goal
 
-pub returns-clause-by_index : goal.returns-clause-by_index
-returns-clause-by_index c =
+pub returns-clause-any_input : goal.returns-clause-any_input
+returns-clause-any_input c =
     let w = c.put_line-size.ensures in
     let output = ap check_output c.«of».ensures in
     let low = rw c.«of».ensures at w.upper_bound.1 in
