@@ -127,7 +127,7 @@ fn number(s: &[u8], at: usize) -> Result<(u64, usize), Refusal>
     long(s, at)
 }
 
-// One fact set, a number up to hi: one group or many. Not by `field`, which tries two groups first: that is slower for both.
+// One fact set, a number up to hi: one group or many.
 #[tactic(auto, unfolding(rules::specs::Numbers::ranged, rules::specs::Numbers::in_range))]
 pub fn set(s: &[u8], at: usize, hi: u64) -> Result<(u64, usize), Refusal>
     ensures { num_of result ≡ ranged s.now 0 hi not_there at }

@@ -4,7 +4,8 @@ use lib.ListN.{length}
 use Rattle.basics.specs.Answers.{Answer, after}
 use Rattle.rules.specs.Refusals.{Sought, sought_in, text_found, written}
 use Rattle.words.specs.Words.{table_of}
-use Rattle.replies.specs.Findings.{Figures, figures, room_for_figures}
+use Rattle.replies.specs.Findings.{Figures, found_of, figures, room_for_figures}
+use Rattle.laws.proofs.AnswerLaws.{via}
 use Rattle.finder.proofs.FinderLaws.{figures_room}
 use Rattle.seeking.proofs.SearchCallLaws.{limits_passed, searches}
 use Rattle.seeking.proofs.search_in.Goals as goal
@@ -35,7 +36,7 @@ returns-in_err-found-clause-result_value c =
     let a = c.args in
     let sought = sought_in a.bound a.form (table_of c.«open».new.words) a.limit a.budget in
     let q = searches a.limit a.budget c.limits_hold-early.ensures a.bound a.form a.table.now c.«open».ensures c.in_ok-open.was a.size in
-    let z = ap figures q ∙ sym (figures_room a.size sought) ∙ ap (λ (x : Answer Figures). after x (room_for_figures a.size)) (sym c.in_err-found.ensures.result_value) in
+    let z = ap figures q ∙ sym (figures_room a.size sought) ∙ ap (λ (x : Answer Figures). after x (room_for_figures a.size)) (via found_of c.seek.ensures.result_value c.in_err-found.was) in
     search (rules, z)
 
 pub returns-in_err-found-clause-text_after : goal.returns-in_err-found-clause-text_after
