@@ -13,7 +13,7 @@ use words::Words;
 
 // Of each row the next one of its task, and of each task the first. Where there is none stands the number that no row has, which the
 // methods hand out as None: an Option in each cell would take twice the memory.
-#[derive(Drop)]
+#[derive(Clone, Copy)]
 pub struct Links {
     pub next: [u16; rows::MOST],
     pub first: [u16; rules::limits::MOST_TASKS as usize],
