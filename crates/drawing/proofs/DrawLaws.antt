@@ -49,7 +49,7 @@ pub draws_number : {t t' : Template} (o : ℕ) → (Stands t → Stands t')
     → (t'.at ≡ t.at) × (t'.count ≡ t.count + 1) → Keeps t t' → Draws (moving [] o) t t'
 draws_number o s d m k = record { stands = s; text = d; most = omega (arith, m.0); count = omega (arith, m.1); memory = k }
 
-keeps_both : {t q r : Template} → Keeps t q → Keeps q r → Keeps t r
+pub keeps_both : {t q r : Template} → Keeps t q → Keeps q r → Keeps t r
 keeps_both d e =
     record {
       text = e.text ∙ d.text;
