@@ -18,7 +18,7 @@ mod memory;
 mod numbers;
 
 pub use memory::Template;
-pub use numbers::Number;
+pub use numbers::{NO_NUMBER, Number};
 
 // Sizes, with the names that specs/Sizes has for them; and how far a move goes before the next one, which overlaps it.
 pub const CHUNK: usize = 32;

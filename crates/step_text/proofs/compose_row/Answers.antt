@@ -7,7 +7,7 @@ use Rattle.step_text.proofs.compose_row.Goals as goal
 pub compose-requires : goal.compose-requires
 compose-requires c =
     let fit = c.requires.held in
-    (omega (arith, c.args.t.now.small), (fit_as c.args.i _ _ _ c.fact_count-top.ensures c.task_count-free.ensures (omega (arith, c.label_of-label.ensures.low, fit.number)) fit, c.requires.room.0, c.requires.room.1))
+    (fit_as c.args.i _ _ _ c.fact_count-top.ensures c.task_count-free.ensures (omega (arith, c.label_of-label.ensures.low, fit.number)) fit, c.requires.room.0, c.requires.room.1)
 
 pub returns-clause-text : goal.returns-clause-text
 returns-clause-text c p =
