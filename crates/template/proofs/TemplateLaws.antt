@@ -161,9 +161,9 @@ low_after t n s h low j l =
     ]
 
 -- So the template stands with it.
-pub stands_number : (t t' : Template) (n : Number) → Stands t → t.count < length t.numbers.now → n.bytes ≡ t.at - t.from → n.offset ≤ most_offset
-    → t'.numbers.now ≡ set t.numbers.now t.count n → t'.from ≡ t.at → t'.count ≡ t.count + 1 → Stands t'
-stands_number t t' n s h b low m f c =
+pub stands_number : (t t' : Template) (n : Number) → Stands t → t.count < length t.numbers.now → n.bytes ≡ t.at - t.from
+    → t'.numbers.now ≡ set t.numbers.now t.count n → t'.from ≡ t.at → t'.count ≡ t.count + 1 → n.offset ≤ most_offset → Stands t'
+stands_number t t' n s h b m f c low =
     record {
       begins = f ∙ begins_after t n s h b ∙ ap₂ (λ (l : List Number) (k : ℕ). start_of l k) (sym m) (sym c);
       low = λ j l. rw m (low_after t n s h low j (omega (arith, l, c)));
