@@ -15,11 +15,6 @@ pub loop-j-init : goal.loop-j-init
 unfolding upto sum_to
 loop-j-init c = (zero-le, refl, refl, omega arith, puts_none _ _)
 
-pub bounds-self-j : goal.bounds-self-j
-bounds-self-j c =
-    let t = c.args.self.now in
-    omega (arith, t.few)
-
 pub overflow_add-end : goal.overflow_add-end
 overflow_add-end c =
     let l = c.loop-j in

@@ -10,11 +10,6 @@ pub loop-j-init : goal.loop-j-init
 unfolding upto sum_to
 loop-j-init c = (zero-le, refl, refl, omega arith, appends_none _ _)
 
-pub bounds-self-j : goal.bounds-self-j
-bounds-self-j c =
-    let t = c.args.self.now in
-    omega (arith, t.few)
-
 pub put_part-end-requires : goal.put_part-end-requires
 put_part-end-requires c =
     let l = c.loop-j in
