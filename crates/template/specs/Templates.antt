@@ -20,7 +20,7 @@ pub record Blank (t : Template) : Type 0 where
   pub from : t.from ≡ 0
   pub count : t.count ≡ 0
 
--- The memory that is lent stays the same, and as long.
+-- The memory that is lent stays the same, and as long: who lent it finds there what was drawn.
 pub record Keeps (t t' : Template) : Type 0 where
   pub text : t'.text.ghost_name ≡ t.text.ghost_name
   pub numbers : t'.numbers.ghost_name ≡ t.numbers.ghost_name
