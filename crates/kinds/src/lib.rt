@@ -14,7 +14,7 @@ ghost use Rattle.words.specs.Words.{table_of};
 ghost use Rattle.step_text.specs.Operators.{operator_text_at};
 ghost use Rattle.kinds.specs.Fits.{Fits, Writes};
 
-use template::{MOST_NUMBERS, TEMPLATE_BYTES, Template};
+use template::{MOST_NUMBERS, NO_NUMBER, TEMPLATE_BYTES, Template};
 use words::Words;
 
 // What the writer puts, where there is room for it; its length.
@@ -65,7 +65,9 @@ pub fn put_operator(
     requires p_bound { p < positions bound form (table_of words.all.now) (step_at (table_of words.all.now) i) }
     ensures { Fits part.old (operator_text_at form (table_of words.entry.all.now) i p) part.new result }
 {
-    let mut template = Template::<TEMPLATE_BYTES, MOST_NUMBERS>::blank();
+    let mut text = [0u8; TEMPLATE_BYTES];
+    let mut numbers = [NO_NUMBER; MOST_NUMBERS];
+    let mut template = Template::over(&mut text, &mut numbers);
     step_text::compose_step(&mut template, words, bound, form, i);
     fit(part, |out| template.put_exactly(out, 0, p))
 }

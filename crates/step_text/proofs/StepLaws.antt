@@ -46,7 +46,7 @@ module _ (b f : ℕ) (t : Table) (i : ℕ) (ops cells : List ℕ) (e : row_at op
   pub step_composed : (p : ℕ) → row_text_at t i (row_at ops cells 0) p ≡ operator_text_at f t i p
   step_composed p = row_text_lem b f t (step_at t i) ops cells p e
 
-module _ {B N b f : ℕ} {t : Table} {i : ℕ} (s : Template B N) {n : ℕ} (c : IsComposed b f t i s n) where
+module _ {b f : ℕ} {t : Table} {i : ℕ} (s : Template) {n : ℕ} (c : IsComposed b f t i s n) where
   pub step_few : Valid t → i < action_count t + method_count t → n ≤ b
   step_few v l = omega (arith, c.count, positions_low f t v i l b)
 

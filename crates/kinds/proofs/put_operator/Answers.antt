@@ -10,5 +10,5 @@ pub fit-requires : goal.fit-requires
 fit-requires c =
     let few = positions_low c.args.form (table_of c.args.words.all.now) c.args.words.held.valid c.args.i c.requires.held.1 c.args.bound in
     let low : c.args.p < most_bound = omega (arith, few, c.requires.held.0, c.requires.p_bound) in
-    let most = c.compose_step.ensures.most in
+    let most = c.compose_step.ensures.composed.most in
     search rules

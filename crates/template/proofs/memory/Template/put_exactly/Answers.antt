@@ -13,86 +13,81 @@ use Rattle.template.proofs.memory.Template.put_exactly.Goals as goal
 
 pub loop-j-init : goal.loop-j-init
 unfolding upto sum_to
-loop-j-init g c = (zero-le, refl, refl, omega arith, puts_none _ _)
-
-pub bounds-self-j : goal.bounds-self-j
-bounds-self-j g c =
-    let t = c.args.self.now in
-    omega (arith, t.few, t.sizes.1)
+loop-j-init c = (zero-le, refl, refl, omega arith, puts_none _ _)
 
 pub overflow_add-end : goal.overflow_add-end
-overflow_add-end g c =
+overflow_add-end c =
     let l = c.loop-j in
     let t = c.args.self.now in
-    omega (arith, segment_ends t l.j (omega arith), l.invariant.2, c.requires.1)
+    omega (arith, segment_ends t c.requires.0 l.j (omega arith), l.invariant.2, c.requires.2)
 
 pub overflow_add-v : goal.overflow_add-v
-overflow_add-v g c =
-    omega (arith, c.requires.0, c.args.self.now.low c.loop-j.j (omega arith))
+overflow_add-v c =
+    omega (arith, c.requires.1, c.requires.0.low c.loop-j.j (omega arith))
 
 pub slice_bounds-put_field-end : goal.slice_bounds-put_field-end
-slice_bounds-put_field-end g c =
+slice_bounds-put_field-end c =
     let l = c.loop-j in
     let t = c.args.self.now in
-    omega (arith, segment_ends t l.j (omega arith), t.fits, t.sizes.0, l.invariant.2)
+    omega (arith, segment_ends t c.requires.0 l.j (omega arith), t.fits, l.invariant.2)
 
 pub put_field-next-requires : goal.put_field-next-requires
-put_field-next-requires g c =
+put_field-next-requires c =
     let l = c.loop-j in
     let t = c.args.self.now in
-    let n = number_at t.numbers l.j in
-    let e = segment_ends t l.j (omega arith) in
-    let long = cut_long t.text l.from n.bytes (omega (arith, e, t.fits, t.sizes.0, l.invariant.2)) in
-    (omega (arith, e, long, c.requires.1, l.invariant.2, l.invariant.3), omega (arith, c.requires.0, t.low l.j (omega arith)))
+    let n = number_at t.numbers.now l.j in
+    let e = segment_ends t c.requires.0 l.j (omega arith) in
+    let long = cut_long t.text.now l.from n.bytes (omega (arith, e, t.fits, l.invariant.2)) in
+    (omega (arith, e, long, c.requires.2, l.invariant.2, l.invariant.3), omega (arith, c.requires.1, c.requires.0.low l.j (omega arith)))
 
 pub loop-j-preserved : goal.loop-j-preserved
-loop-j-preserved g c =
+loop-j-preserved c =
     let l = c.loop-j in
     let p = c.args.p in
     let t = c.args.self.now in
-    let n = number_at t.numbers l.j in
-    let e = segment_ends t l.j (omega arith) in
-    let long = cut_long t.text l.from n.bytes (omega (arith, e, t.fits, t.sizes.0, l.invariant.2)) in
-    let more = start_more t l.j in
+    let n = number_at t.numbers.now l.j in
+    let e = segment_ends t c.requires.0 l.j (omega arith) in
+    let long = cut_long t.text.now l.from n.bytes (omega (arith, e, t.fits, l.invariant.2)) in
+    let more = start_more t c.requires.0 l.j in
     let put = c.put_field-next.ensures in (
       omega arith,
       l.invariant.1,
       omega (arith, more, l.invariant.2),
       omega (arith, more, long, l.invariant.3, put.upper_bound),
-      puts_is (turn_more t l.j p l.from l.invariant.2
-          ∙ ap (λ (x : List ℕ). upto (turn t.text t.numbers p) l.j ++ (x ++ digits (p + n.offset))) (cut_is t.text l.from n.bytes))
+      puts_is (turn_more t c.requires.0 l.j p l.from l.invariant.2
+          ∙ ap (λ (x : List ℕ). upto (turn t.text.now t.numbers.now p) l.j ++ (x ++ digits (p + n.offset))) (cut_is t.text.now l.from n.bytes))
           (l.invariant.4 ▹ put.puts),
     )
 
 pub slice_bounds-put-count : goal.slice_bounds-put-count
-slice_bounds-put-count g c =
+slice_bounds-put-count c =
     let l = c.loop-j in
     let t = c.args.self.now in
-    omega (arith, last_begins t l.j l.from (omega arith) l.invariant.2, t.reach)
+    omega (arith, last_begins t c.requires.0 l.j l.from (omega arith) l.invariant.2, t.reach)
 
 pub slice_bounds-put-start : goal.slice_bounds-put-start
-slice_bounds-put-start g c =
+slice_bounds-put-start c =
     let l = c.loop-j in
     let t = c.args.self.now in
-    omega (arith, last_begins t l.j l.from (omega arith) l.invariant.2, t.reach)
+    omega (arith, last_begins t c.requires.0 l.j l.from (omega arith) l.invariant.2, t.reach)
 
 pub slice_bounds-put-end : goal.slice_bounds-put-end
-slice_bounds-put-end g c =
+slice_bounds-put-end c =
     let t = c.args.self.now in
-    omega (arith, t.fits, t.sizes.0)
+    omega (arith, t.fits)
 
 pub put-requires : goal.put-requires
-put-requires g c =
+put-requires c =
     let l = c.loop-j in
     let t = c.args.self.now in
     let k : l.j ≡ t.count = omega arith in
-    let e = last_begins t l.j l.from k l.invariant.2 in
-    let long = length-take-le (t.at - l.from) (drop l.from t.text) (rw length-drop (omega (arith, t.fits, t.sizes.0))) in
-    omega (arith, e, k, long, c.requires.1, t.reach, l.invariant.2, l.invariant.3)
+    let e = last_begins t c.requires.0 l.j l.from k l.invariant.2 in
+    let long = length-take-le (t.at - l.from) (drop l.from t.text.now) (rw length-drop (omega (arith, t.fits))) in
+    omega (arith, e, k, long, c.requires.2, t.reach, l.invariant.2, l.invariant.3)
 
 pub returns : goal.returns
-returns g c =
+returns c =
     let l = c.loop-j in
     let t = c.args.self.now in
     let k : l.j ≡ t.count = omega arith in
-    puts_is (turn_last t c.args.p l.j l.from k (last_begins t l.j l.from k l.invariant.2)) (l.invariant.4 ▹ c.put.ensures)
+    puts_is (turn_last t c.args.p l.j l.from k (last_begins t c.requires.0 l.j l.from k l.invariant.2)) (l.invariant.4 ▹ c.put.ensures)

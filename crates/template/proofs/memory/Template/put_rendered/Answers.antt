@@ -8,66 +8,61 @@ use Rattle.template.proofs.memory.Template.put_rendered.Goals as goal
 
 pub loop-j-init : goal.loop-j-init
 unfolding upto sum_to
-loop-j-init g c = (zero-le, refl, refl, omega arith, appends_none _ _)
-
-pub bounds-self-j : goal.bounds-self-j
-bounds-self-j g c =
-    let t = c.args.self.now in
-    omega (arith, t.few, t.sizes.1)
+loop-j-init c = (zero-le, refl, refl, omega arith, appends_none _ _)
 
 pub put_part-end-requires : goal.put_part-end-requires
-put_part-end-requires g c =
+put_part-end-requires c =
     let l = c.loop-j in
     let t = c.args.self.now in
-    let e = segment_ends t l.j (omega arith) in
-    omega (arith, e, c.requires, t.sizes.0, l.invariant.2, l.invariant.3, l.invariant.4.size)
+    let e = segment_ends t c.requires.stands.0 l.j (omega arith) in
+    omega (arith, e, c.requires, l.invariant.2, l.invariant.3, l.invariant.4.size)
 
 pub overflow_add-v : goal.overflow_add-v
-overflow_add-v g c =
-    omega (arith, c.requires.stands.1, c.args.self.now.low c.loop-j.j (omega arith))
+overflow_add-v c =
+    omega (arith, c.requires.stands.2, c.requires.stands.0.low c.loop-j.j (omega arith))
 
 pub put_figure-next-requires : goal.put_figure-next-requires
-put_figure-next-requires g c =
+put_figure-next-requires c =
     let l = c.loop-j in
     let t = c.args.self.now in
-    let e = segment_ends t l.j (omega arith) in
+    let e = segment_ends t c.requires.stands.0 l.j (omega arith) in
     let q = c.put_part-end.ensures in
-    (omega (arith, e, c.requires.margin_in_bounds, q.value, q.appends.size, l.invariant.3, l.invariant.4.size), omega (arith, c.requires.stands.1, t.low l.j (omega arith)), c.requires.stands.2)
+    (omega (arith, e, c.requires.margin_in_bounds, q.value, q.appends.size, l.invariant.3, l.invariant.4.size), omega (arith, c.requires.stands.2, c.requires.stands.0.low l.j (omega arith)), c.requires.stands.3)
 
 pub overflow_add-from : goal.overflow_add-from
-overflow_add-from g c =
+overflow_add-from c =
     let l = c.loop-j in
-    let e = segment_ends c.args.self.now l.j (omega arith) in
+    let e = segment_ends c.args.self.now c.requires.stands.0 l.j (omega arith) in
     omega (arith, e, c.requires.margin_in_bounds, l.invariant.2)
 
 pub loop-j-preserved : goal.loop-j-preserved
-loop-j-preserved g c =
+loop-j-preserved c =
     let l = c.loop-j in
     let t = c.args.self.now in
     let q = c.put_part-end.ensures in
     let d = c.put_figure-next.ensures in
-    let more = start_more t l.j in
-    (omega arith, l.invariant.1, omega (arith, more, l.invariant.2), omega (arith, more, l.invariant.3, q.value, d.upper_bound), appends_is (turn_more t l.j c.args.p l.from l.invariant.2) (l.invariant.4 ▸ (q.appends ▸ d.appends)))
+    let more = start_more t c.requires.stands.0 l.j in
+    (omega arith, l.invariant.1, omega (arith, more, l.invariant.2), omega (arith, more, l.invariant.3, q.value, d.upper_bound), appends_is (turn_more t c.requires.stands.0 l.j c.args.p l.from l.invariant.2) (l.invariant.4 ▸ (q.appends ▸ d.appends)))
 
 pub overflow_sub-self : goal.overflow_sub-self
-overflow_sub-self g c =
+overflow_sub-self c =
     let l = c.loop-j in
     let t = c.args.self.now in
-    omega (arith, last_begins t l.j l.from (omega arith) l.invariant.2, t.reach)
+    omega (arith, last_begins t c.requires.stands.0 l.j l.from (omega arith) l.invariant.2, t.reach)
 
 pub put_part-requires : goal.put_part-requires
-put_part-requires g c =
+put_part-requires c =
     let l = c.loop-j in
     let t = c.args.self.now in
     let k : l.j ≡ t.count = omega arith in
-    let e = last_begins t l.j l.from k l.invariant.2 in
-    omega (arith, e, k, c.requires, t.reach, t.sizes.0, l.invariant.2, l.invariant.3, l.invariant.4.size)
+    let e = last_begins t c.requires.stands.0 l.j l.from k l.invariant.2 in
+    omega (arith, e, k, c.requires, t.reach, l.invariant.2, l.invariant.3, l.invariant.4.size)
 
 pub returns : goal.returns
-returns g c =
+returns c =
     let l = c.loop-j in
     let t = c.args.self.now in
     let k : l.j ≡ t.count = omega arith in
-    let e = last_begins t l.j l.from k l.invariant.2 in
+    let e = last_begins t c.requires.stands.0 l.j l.from k l.invariant.2 in
     let q = c.put_part.ensures in
     record { appends = appends_is (turn_last t c.args.p l.j l.from k e) (l.invariant.4 ▸ q.appends); upper_bound = omega (arith, k, e, t.reach, l.invariant.2, l.invariant.3, q.value) }
