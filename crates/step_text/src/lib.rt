@@ -94,5 +94,5 @@ pub fn put_operators(
     let mut numbers = [NO_NUMBER; MOST_NUMBERS];
     let mut template = Template::over(&mut text, &mut numbers);
     let count = compose_step(&mut template, words, bound, form, i);
-    template.put_positions(out, at, figures, count)
+    template.drawn().put_positions(out, at, figures, count)
 }

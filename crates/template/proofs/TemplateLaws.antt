@@ -15,10 +15,13 @@ use Rattle.text.specs.Appends.{Appends}
 use Rattle.text.proofs.AppendLaws.{drop_take}
 use Rattle.template.specs.declared.numbers.Number.{Number}
 use Rattle.template.specs.declared.memory.Template.{Template}
+use Rattle.template.specs.declared.view.Drawn.{Drawn}
 use Rattle.template.specs.Sizes.{most_offset}
 use Rattle.template.specs.Segments.{no_number, number_at, start_of, turn}
 use Rattle.template.specs.Templates.{Blank, Stands, rendered}
+use Rattle.template.specs.Views.{shown}
 
+-- Each segment ends where the open one begins, or before.
 ends : (numbers : List Number) (c j : ℕ) → j < c → start_of numbers j + (number_at numbers j).bytes ≤ start_of numbers c
 unfolding sum_to
 ends numbers zero j h = absurd (omega arith)
@@ -27,29 +30,6 @@ ends numbers (suc c) j h =
       | yes p ↦ omega (arith, ends numbers c j p)
       | no p ↦ let e : j ≡ c = omega arith in rw e (le_refl (start_of numbers c + (number_at numbers c).bytes))
     ]
-
-module _ (t : Template) (s : Stands t) where
-  -- After all numbers the last segment begins.
-  pub last_begins : (j from : ℕ) → j ≡ t.count → from ≡ start_of t.numbers.now j → from ≡ t.from
-  last_begins j from k e = e ∙ ap (start_of t.numbers.now) k ∙ sym s.begins
-
-  module _ (j : ℕ) where
-    -- Each segment ends where the next byte stands, or before.
-    pub segment_ends : j < t.count → start_of t.numbers.now j + (number_at t.numbers.now j).bytes ≤ t.at
-    segment_ends h = omega (arith, ends t.numbers.now t.count j h, s.begins, t.reach)
-
-    -- There the next one begins.
-    pub start_more : start_of t.numbers.now (j + 1) ≡ start_of t.numbers.now j + (number_at t.numbers.now j).bytes
-    start_more = sum_more (λ k. (number_at t.numbers.now k).bytes) j
-
-    -- A turn of a writer: a segment and the number after it.
-    pub turn_more : (p from : ℕ) → from ≡ start_of t.numbers.now j
-        → upto (turn t.text.now t.numbers.now p) (j + 1)
-        ≡ upto (turn t.text.now t.numbers.now p) j ++ (take (number_at t.numbers.now j).bytes (drop from t.text.now) ++ digits (p + (number_at t.numbers.now j).offset))
-    unfolding turn
-    turn_more p from e =
-        upto_more (turn t.text.now t.numbers.now p) j
-        ∙ (λ i. upto (turn t.text.now t.numbers.now p) j ++ (take (number_at t.numbers.now j).bytes (drop (sym e i) t.text.now) ++ digits (p + (number_at t.numbers.now j).offset)))
 
 -- ---- Drawing.
 
@@ -99,7 +79,7 @@ rendered_text t t' {y} s n f c w p =
     let r : t'.at ≤ length t'.text.now = t'.fits in
     let turns : upto (turn t'.text.now t.numbers.now p) t.count ≡ upto (turn t.text.now t.numbers.now p) t.count =
     upto_same (turn t'.text.now t.numbers.now p) (turn t.text.now t.numbers.now p) t.count (λ k q.
-    let e : start_of t.numbers.now k + (number_at t.numbers.now k).bytes ≤ t.at = segment_ends t s k q in
+    let e : start_of t.numbers.now k + (number_at t.numbers.now k).bytes ≤ t.at = omega (arith, ends t.numbers.now t.count k q, s.begins, t.reach) in
     ap (λ (z : List ℕ). z ++ digits (p + (number_at t.numbers.now k).offset))
     (same_part t'.text.now t.text.now t.at (start_of t.numbers.now k) (number_at t.numbers.now k).bytes (front h w)
     e (omega (arith, h, w.size)) (omega (arith, h)))) in
@@ -185,12 +165,35 @@ rendered_number t t' n s h b x m a f c p =
 
 -- ---- Rendering.
 
--- The last segment.
-pub turn_last : (t : Template) (p j from : ℕ) → j ≡ t.count → from ≡ t.from
-    → rendered t p ≡ upto (turn t.text.now t.numbers.now p) j ++ take (t.at - from) (drop from t.text.now)
-unfolding rendered
-turn_last t p j from f e =
-    ap₂ (λ (n k : ℕ). upto (turn t.text.now t.numbers.now p) n ++ take (t.at - k) (drop k t.text.now)) (sym f) (sym e)
+module _ (d : Drawn) where
+  -- After all numbers the last segment begins.
+  pub last_begins : (j from : ℕ) → j ≡ d.count → from ≡ start_of d.numbers.now j → from ≡ d.from
+  last_begins j from k e = e ∙ ap (start_of d.numbers.now) k ∙ sym d.begins
+
+  -- The last segment.
+  pub turn_last : (p j from : ℕ) → j ≡ d.count → from ≡ d.from
+      → shown d p ≡ upto (turn d.text.now d.numbers.now p) j ++ take (d.at - from) (drop from d.text.now)
+  unfolding shown
+  turn_last p j from f e =
+      ap₂ (λ (n k : ℕ). upto (turn d.text.now d.numbers.now p) n ++ take (d.at - k) (drop k d.text.now)) (sym f) (sym e)
+
+  module _ (j : ℕ) where
+    -- Each segment ends where the next byte stands, or before.
+    pub segment_ends : j < d.count → start_of d.numbers.now j + (number_at d.numbers.now j).bytes ≤ d.at
+    segment_ends h = omega (arith, ends d.numbers.now d.count j h, d.begins, d.reach)
+
+    -- There the next one begins.
+    pub start_more : start_of d.numbers.now (j + 1) ≡ start_of d.numbers.now j + (number_at d.numbers.now j).bytes
+    start_more = sum_more (λ k. (number_at d.numbers.now k).bytes) j
+
+    -- A turn of a writer: a segment and the number after it.
+    pub turn_more : (p from : ℕ) → from ≡ start_of d.numbers.now j
+        → upto (turn d.text.now d.numbers.now p) (j + 1)
+        ≡ upto (turn d.text.now d.numbers.now p) j ++ (take (number_at d.numbers.now j).bytes (drop from d.text.now) ++ digits (p + (number_at d.numbers.now j).offset))
+    unfolding turn
+    turn_more p from e =
+        upto_more (turn d.text.now d.numbers.now p) j
+        ∙ (λ i. upto (turn d.text.now d.numbers.now p) j ++ (take (number_at d.numbers.now j).bytes (drop (sym e i) d.text.now) ++ digits (p + (number_at d.numbers.now j).offset)))
 
 -- A part of a text, from a place to another.
 module _ (t : List ℕ) (from n : ℕ) where

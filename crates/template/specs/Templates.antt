@@ -1,13 +1,12 @@
 -- What a template says.
-use Rattle.std.specs.Prelude.{ℕ, ◌-◌, ◌≤◌, ◌<◌, ◌≡◌, List, ◌++◌, length, take, drop}
-use Rattle.basics.specs.Lists.{upto}
+use Rattle.std.specs.Prelude.{ℕ, ◌≤◌, ◌<◌, ◌≡◌, List, length}
 use Rattle.template.specs.declared.memory.Template.{Template}
 use Rattle.template.specs.Sizes.{most_offset}
-use Rattle.template.specs.Segments.{number_at, start_of, turn}
+use Rattle.template.specs.Segments.{number_at, start_of, text_of}
 
 -- The whole text at the position p.
 unfoldable pub rendered : Template → ℕ → List ℕ
-rendered t p = upto (turn t.text.now t.numbers.now p) t.count ++ take (t.at - t.from) (drop t.from t.text.now)
+rendered t p = text_of t.text.now t.numbers.now t.at t.from t.count p
 
 -- The open segment begins after the last number, and each number is low enough to have a figure.
 pub record Stands (t : Template) : Type 0 where

@@ -3,7 +3,7 @@ use mathlib.Core.Path.{◌≡◌}
 use Rattle.basics.specs.Lists.{upto}
 use Rattle.text.specs.Appends.{Appends}
 use Rattle.template.specs.Segments.{start_of, turn}
-use Rattle.template.proofs.memory.Template.put_rendered.Given as goal
+use Rattle.template.proofs.view.Drawn.put_rendered.Given as goal
 
 abbrev pub invariant-loop-j : goal.invariant-loop-j
 invariant-loop-j l =

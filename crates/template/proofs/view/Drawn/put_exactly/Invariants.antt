@@ -3,7 +3,7 @@ use mathlib.Core.Path.{◌≡◌}
 use Rattle.basics.specs.Lists.{upto}
 use Rattle.text.specs.Puts.{Puts}
 use Rattle.template.specs.Segments.{start_of, turn}
-use Rattle.template.proofs.memory.Template.put_exactly.Given as goal
+use Rattle.template.proofs.view.Drawn.put_exactly.Given as goal
 
 abbrev pub invariant-loop-j : goal.invariant-loop-j
 invariant-loop-j l =

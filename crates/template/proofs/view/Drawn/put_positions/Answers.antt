@@ -4,7 +4,7 @@ use native.Mathlib.Omega.{arith}
 use Rattle.basics.specs.Lists.{upto}
 use Rattle.laws.proofs.TextLaws.{upto_more}
 use Rattle.text.proofs.AppendLaws.{appends_none, appends_is, ◌▸◌}
-use Rattle.template.proofs.memory.Template.put_positions.Goals as goal
+use Rattle.template.proofs.view.Drawn.put_positions.Goals as goal
 
 pub loop-p-init : goal.loop-p-init
 unfolding upto
@@ -15,7 +15,7 @@ put_rendered-next-requires c =
     let l = c.loop-p in
     let r = c.requires in
     record {
-      stands = (r.stands.0, r.stands.1, omega (arith, r.count_bound), r.stands.2);
+      room = (r.room.0, omega (arith, r.count_bound), r.room.1);
       margin_in_bounds = omega (arith, r.count_bound, l.invariant.0.size, l.invariant.2);
     }
 
