@@ -99,7 +99,7 @@ function read_constant(line,   parts) {
     keep_constant("source", parts[3], parts[6])
 }
 
-# A line of the enum of reasons: its name in C is in capitals, a line below before each that is not the first.
+# A line of the enum of reasons: its name in C is in capitals, a line below before each that is not the first. Outside it a constant is one.
 function read_reason(line,   parts) {
     if (line ~ /^pub enum Reason \{$/) {
         among = 1
@@ -111,6 +111,8 @@ function read_reason(line,   parts) {
             return tell("cannot read the source's reason '" line "'")
         split(line, parts, /[ =,]+/)
         keep_constant("source", capitals(parts[1]), parts[2])
+    } else {
+        read_constant(line)
     }
 }
 

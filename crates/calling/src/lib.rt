@@ -101,9 +101,12 @@ fn section_between(asked: Asked, text: &mut [u8]) -> Result<usize, Refusal>
         index,
     } = asked;
     let number = ildorzhen_section_number(bound, form, table, index, text, 7);
-    let place = ildorzhen_section_place(bound, form, table, index, text, 7);
-    let length = ildorzhen_section_length(bound, form, table, index, text, 7);
-    let length = answer(number, place, length)? as usize;
+    // A call reads the whole table: the place is asked of a refusal alone.
+    if number != 0 {
+        let place = ildorzhen_section_place(bound, form, table, index, text, 7);
+        return Err(Refusal { number, place });
+    }
+    let length = ildorzhen_section_length(bound, form, table, index, text, 7) as usize;
     let after = text::put(text, 0, b"before\n") + length.min(4000);
     let end = text::put(text, after, b"after\n");
     ildorzhen_section_write(bound, form, table, index, text, 7);

@@ -1,7 +1,7 @@
 // The text of an operator's template, composed once from its row.
 #![tactic(auto)]
 
-ghost use Rattle.std.specs.Prelude.{ℕ, ◌≡◌, ◌∷◌, ◌+◌, ◌*◌, ◌≤◌};
+ghost use Rattle.std.specs.Prelude.{ℕ, ◌≡◌, ◌∷◌, ◌+◌, ◌*◌, ◌≤◌, length};
 ghost use Rattle.std.specs.Int.Count.{ones};
 ghost use Rattle.basics.specs.Texts.{digits, ThreeDigits};
 ghost use Rattle.rules.specs.Limits.{most_facts, most_subtasks};
@@ -9,8 +9,8 @@ ghost use Rattle.rules.specs.Problems.{bottom_next};
 ghost use Rattle.facts.specs.Sets.{set_of};
 ghost use Rattle.listing.specs.Listings.{list_text, list_bytes};
 ghost use Rattle.template.specs.Sizes.{most_numbers, operator_bytes, template_bytes};
-ghost use Rattle.template.specs.Templates.{rendered};
-ghost use Rattle.drawing.specs.Draws.{Room, Draws};
+ghost use Rattle.template.specs.Templates.{Stands, Keeps, rendered};
+ghost use Rattle.drawing.specs.Draws.{Room, Draws, Writes};
 ghost use Rattle.stack_lines.specs.StackLines.{Left};
 ghost use Rattle.rows.specs.Rows.{row_at};
 ghost use Rattle.compose.specs.Groups as Groups;
@@ -27,7 +27,7 @@ mod stack;
 use stack::Stack;
 
 // The name and the position.
-fn put_name<const B: usize, const N: usize>(t: &mut Template<B, N>, letter: u8, k: u64)
+fn put_name(t: &mut Template<'_>, letter: u8, k: u64)
     requires { Room (Groups.name_piece letter k) t.old × ThreeDigits k }
     ensures { Draws (Groups.name_piece letter k) t.old t.new }
 {
@@ -37,27 +37,21 @@ fn put_name<const B: usize, const N: usize>(t: &mut Template<B, N>, letter: u8, 
 }
 
 // What it costs, and the end.
-fn put_cost<const B: usize, const N: usize>(t: &mut Template<B, N>, cost: u64)
+fn put_cost(t: &mut Template<'_>, cost: u64)
     requires { Room (Groups.cost_piece cost) t.old }
-    ensures { Draws (Groups.cost_piece cost) t.old t.new }
+    ensures { Writes (Groups.cost_piece cost) t.old t.new }
 {
-    let next = text::put_number(&mut t.text, t.at, cost);
-    t.at = text::put(&mut t.text, next, b"\nend_operator\n");
+    let next = text::put_number(t.text, t.at, cost);
+    t.at = text::put(t.text, next, b"\nend_operator\n");
 }
 
 // How many lines a group has, and those of its facts.
-fn fact_lines<const B: usize, const N: usize>(
-    t: &mut Template<B, N>,
-    n: u64,
-    says: Says,
-    top: u64,
-    set: Set,
-)
+fn fact_lines(t: &mut Template<'_>, n: u64, says: Says, top: u64, set: Set)
     requires { Room (fact_lines n (list_text says top (set_of set)) (list_bytes says)) t.old × ThreeDigits n × (top ≤ most_facts) }
-    ensures { Draws (fact_lines n (list_text says top (set_of set)) (list_bytes says)) t.old t.new }
+    ensures { Writes (fact_lines n (list_text says top (set_of set)) (list_bytes says)) t.old t.new }
 {
     drawing::field_line(t, b"", n);
-    t.at = listing::put_lines(&mut t.text, t.at, says, set, top);
+    t.at = listing::put_lines(t.text, t.at, says, set, top);
 }
 
 // How many lines prevail: those of a set's facts, and those of the stack that stay as they are.
@@ -84,12 +78,7 @@ fn effect_count(set: Set, stack: Stack) -> u64
 }
 
 // All lines that prevail.
-fn prevails<const B: usize, const N: usize>(
-    t: &mut Template<B, N>,
-    needs: Set,
-    dels: Set,
-    stack: Stack,
-)
+fn prevails(t: &mut Template<'_>, needs: Set, dels: Set, stack: Stack)
     requires { Room (prevail_lines stack.top needs dels stack.stay stack.task stack.bottom) t.old }
     ensures { Draws (prevail_lines stack.top needs dels stack.stay stack.task stack.bottom) t.old t.new }
 {
@@ -101,13 +90,7 @@ fn prevails<const B: usize, const N: usize>(
 }
 
 // All lines that change something.
-fn effects<const B: usize, const N: usize>(
-    t: &mut Template<B, N>,
-    needs: Set,
-    adds: Set,
-    dels: Set,
-    stack: Stack,
-)
+fn effects(t: &mut Template<'_>, needs: Set, adds: Set, dels: Set, stack: Stack)
     requires { Room (effect_lines stack.top needs adds dels stack.stay stack.task stack.bottom) t.old }
     ensures { Draws (effect_lines stack.top needs adds dels stack.stay stack.task stack.bottom) t.old t.new }
 {
@@ -131,17 +114,12 @@ fn bottom_of(free: u64, rows: Rows) -> u64
 }
 
 // The template of the first row, for the operators with this letter and number.
-pub fn compose<const B: usize, const N: usize>(
-    t: &mut Template<B, N>,
-    top: u64,
-    free: u64,
-    letter: u8,
-    k: u64,
-    rows: Rows,
-)
-    requires { Fit top free k rows.ops.now rows.cells.now × (template_bytes ≤ B) × (most_numbers ≤ N) }
+pub fn compose(t: &mut Template<'_>, top: u64, free: u64, letter: u8, k: u64, rows: Rows)
+    requires { Fit top free k rows.ops.now rows.cells.now × (template_bytes ≤ length t.old.text.now) × (most_numbers ≤ length t.old.numbers.now) }
+    ensures stands { Stands t.new }
     ensures text { (p : ℕ) → rendered t.new p ≡ row_text top free (letter ∷ digits k) (row_at rows.entry.ops.now rows.entry.cells.now 0) p }
     ensures upper_bound { t.new.at + 3 * t.new.count ≤ operator_bytes }
+    ensures memory { Keeps t.old t.new }
 {
     let needs = rows.needs(0);
     let adds = rows.adds(0);

@@ -1,7 +1,7 @@
 // Fact sets. Only this crate knows what a set is in memory: a mask, whose bit k stands for fact k.
 #![tactic(auto)]
 
-ghost use Rattle.std.specs.Prelude.{◌≡◌, ℕ, not, ◌+◌, ◌<◌, ◌≤◌, length};
+ghost use Rattle.std.specs.Prelude.{◌≡◌, ℕ, not, ◌+◌, ◌<◌, ◌≤◌, length, IfSome};
 ghost use Rattle.std.specs.Int.Bits.{bit_and, bit_or};
 ghost use Rattle.std.specs.Int.Count.{ones};
 ghost use Rattle.rules.specs.Limits.{most_facts};
@@ -91,7 +91,8 @@ pub struct Members {
 // One step of a walk over a set. The zeros below the lowest bit are as many as its fact's number; less one, that bit is clear and
 // those above it stay.
 pub fn walk(s: Set) -> Option<Members>
-    ensures { (n : ℕ) → n ≤ most_facts → members_read n result ≡ members_of n (set_of s) }
+    ensures members { (n : ℕ) → n ≤ most_facts → members_read n result ≡ members_of n (set_of s) }
+    ensures fact { IfSome result (λ m. m.fact < most_facts) }
 {
     let bits = s.bits;
     if bits == 0 {

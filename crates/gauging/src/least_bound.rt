@@ -10,6 +10,8 @@ pub fn find_least(form: u64, table: &[u8]) -> Result<u64, Refusal>
     ensures { reply_of result ≡ find_least form table.now }
 {
     let mut words = [0u64; words::SIZE];
-    opening::open_formed(form, Ok(()), table, Ok(()), &mut words)?;
-    Ok(least::least(Words { all: &words }, form))
+    match opening::open_formed(form, Ok(()), table, Ok(()), &mut words) {
+        Ok(()) => Ok(least::least(Words { all: &words }, form)),
+        Err(refusal) => Err(refusal),
+    }
 }

@@ -11,10 +11,12 @@ ghost use Rattle.rules.specs.Operators.{positions};
 ghost use Rattle.rules.specs.Problems.{variable_count, problem_of};
 ghost use Rattle.laws.specs.Steps.{step_at, variable_text};
 ghost use Rattle.words.specs.Words.{table_of};
+ghost use Rattle.text.specs.Puts.{farthest};
+ghost use Rattle.template.specs.Views.{shown};
 ghost use Rattle.step_text.specs.Operators.{operator_text_at};
 ghost use Rattle.kinds.specs.Fits.{Fits, Writes};
 
-use template::{MOST_NUMBERS, TEMPLATE_BYTES, Template};
+use template::{Drawn, MOST_NUMBERS, NO_NUMBER, TEMPLATE_BYTES, Template};
 use words::Words;
 
 // What the writer puts, where there is room for it; its length.
@@ -52,6 +54,14 @@ pub fn put_middle(words: Words, bound: u64, form: u64, part: &mut [u8]) -> usize
     fit(part, |out| middle::put_middle(words, bound, form, out, 0))
 }
 
+// What is drawn of a template, at the position p.
+fn put_drawn(drawn: Drawn, p: usize, part: &mut [u8]) -> usize
+    requires { (p < most_bound) × (drawn.at + 3 * drawn.count ≤ farthest) }
+    ensures { Fits part.old (shown drawn.entry p) part.new result }
+{
+    fit(part, |out| drawn.put_exactly(out, 0, p))
+}
+
 // The operator of step i at the position p + 1, composed once.
 pub fn put_operator(
     words: Words,
@@ -65,9 +75,11 @@ pub fn put_operator(
     requires p_bound { p < positions bound form (table_of words.all.now) (step_at (table_of words.all.now) i) }
     ensures { Fits part.old (operator_text_at form (table_of words.entry.all.now) i p) part.new result }
 {
-    let mut template = Template::<TEMPLATE_BYTES, MOST_NUMBERS>::blank();
+    let mut text = [0u8; TEMPLATE_BYTES];
+    let mut numbers = [NO_NUMBER; MOST_NUMBERS];
+    let mut template = Template::over(&mut text, &mut numbers);
     step_text::compose_step(&mut template, words, bound, form, i);
-    fit(part, |out| template.put_exactly(out, 0, p))
+    put_drawn(template.drawn(), p, part)
 }
 
 pub fn put_last(part: &mut [u8]) -> usize

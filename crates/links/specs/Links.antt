@@ -5,6 +5,7 @@ use Rattle.rules.specs.Tables.{Table, action_count, method_count}
 use Rattle.rules.specs.Operators.{task_of, positions}
 use Rattle.laws.specs.Steps.{step_at}
 use Rattle.rows.specs.Sizes.{most_rows}
+use Rattle.links.specs.declared.NextRow.{NextRow}
 use Rattle.links.specs.declared.Links.{Links}
 
 abbrev pub row_count : Table → ℕ
@@ -20,6 +21,10 @@ first_in links c = get_or links.first c 0
 -- The row of a number.
 abbrev pub some_row : ℕ → Option ℕ
 some_row n = cond (ltb n most_rows) (Some n) None
+
+-- The row that a walk is led to.
+abbrev pub row_of : NextRow → Option ℕ
+row_of next = some_row next.number
 
 -- A cell for each row, and one for each task.
 pub record Sized (links : Links) : Type 0 where

@@ -1,44 +1,64 @@
 // The rows of each task whose operators exist, linked once in the table's order: a walk goes from one to the next, past all others.
 #![tactic(auto)]
 
-ghost use Rattle.std.specs.Prelude.{◌≡◌, ◌+◌, ◌<◌};
+ghost use Rattle.std.specs.Prelude.{◌≡◌, ◌+◌, ◌<◌, None};
 ghost use Rattle.rules.specs.Limits.{most_tasks};
 ghost use Rattle.words.specs.Words.{table_of};
 ghost use Rattle.rows.specs.Sizes.{most_rows};
 ghost use Rattle.run.specs.Ready.{Ready};
-ghost use Rattle.links.specs.Links.{next_in, first_in, some_row, Linked, LinkedTo};
+ghost use Rattle.links.specs.Links.{row_of, next_in, first_in, some_row, Linked, LinkedTo};
 
 use rows::{Rows, row};
 use words::Words;
 
+// The row that a walk is led to, or none. It is kept as a number, of which the number that no row has stands for none, and handed out as
+// an Option where it is asked for: so a walk that keeps it from turn to turn compares it once, where it takes the row.
+#[derive(Clone, Copy)]
+pub struct NextRow {
+    number: usize,
+}
+
+impl NextRow {
+    pub fn none() -> NextRow
+        ensures { row_of result ≡ None }
+    {
+        NextRow { number: rows::MOST }
+    }
+
+    pub fn row(self) -> Option<usize>
+        ensures { result ≡ row_of self }
+    {
+        if self.number < rows::MOST {
+            Some(self.number)
+        } else {
+            None
+        }
+    }
+}
+
 // Of each row the next one of its task, and of each task the first. Where there is none stands the number that no row has, which the
-// methods hand out as None: an Option in each cell would take twice the memory.
-#[derive(Drop)]
+// methods hand out as none: an Option in each cell would take twice the memory.
+#[derive(Clone, Copy)]
 pub struct Links {
     pub next: [u16; rows::MOST],
     pub first: [u16; rules::limits::MOST_TASKS as usize],
 }
 
-fn row_in(cell: u16) -> Option<usize>
-    ensures { result ≡ some_row cell }
-{
-    let row = cell as usize;
-    if row < rows::MOST { Some(row) } else { None }
-}
-
 impl Links {
-    pub fn next(&self, row: usize) -> Option<usize>
+    pub fn next(&self, row: usize) -> NextRow
         requires { row < most_rows }
-        ensures { result ≡ some_row (next_in self.now row) }
+        ensures { row_of result ≡ some_row (next_in self.now row) }
     {
-        row_in(self.next[row])
+        let number = self.next[row] as usize;
+        NextRow { number }
     }
 
-    pub fn first(&self, task: usize) -> Option<usize>
+    pub fn first(&self, task: usize) -> NextRow
         requires { task < most_tasks }
-        ensures { result ≡ some_row (first_in self.now task) }
+        ensures { row_of result ≡ some_row (first_in self.now task) }
     {
-        row_in(self.first[task])
+        let number = self.first[task] as usize;
+        NextRow { number }
     }
 }
 

@@ -1,3 +1,4 @@
 pub mod Steps
 pub mod Runs
 pub mod Ready
+pub mod Kinds

@@ -1,7 +1,7 @@
 // A run: how it begins, and what it does with one operator, by its prepared row.
 #![tactic(auto)]
 
-ghost use Rattle.std.specs.Prelude.{◌≡◌, ◌<◌, ◌≤◌, length, IfOk, OnErr};
+ghost use Rattle.std.specs.Prelude.{ℕ, ◌≡◌, ◌<◌, ◌≤◌, length, IfOk, OnErr};
 ghost use Rattle.rules.specs.Limits.{most_actions, most_methods, most_bound};
 ghost use Rattle.laws.specs.Steps.{step_of, operator_of};
 ghost use Rattle.words.specs.Words.{table_of};
@@ -10,6 +10,7 @@ ghost use Rattle.rows.specs.Rows.{row_at, RowOk};
 ghost use Rattle.run.specs.Steps.{start_point, step_row, document_step};
 ghost use Rattle.run.specs.Runs.{most_operators, ProgressOk, Landed, point_of, turned_of, applied_of, run_point, stepped_of, SameRun};
 ghost use Rattle.run.specs.Ready.{Ready, row_index, RowOf};
+ghost use Rattle.run.specs.Kinds.{kind_step};
 
 use facts::Set;
 use rows::{Rows, row};
@@ -86,6 +87,16 @@ pub fn turn(
     }
     rows.push(stack, below, index);
     Ok(t.landed(below, rows, index))
+}
+
+// The kind that a number stands for, so that an operator told by numbers can be run: 0 is an action, any other a method.
+pub fn kind_of(kind: u64) -> Kind
+    ensures { (k : ℕ) → step_of result k ≡ kind_step kind k }
+{
+    match kind {
+        0 => Kind::Action,
+        _ => Kind::Method,
+    }
 }
 
 // The row of an operator, where there is such an action or method: actions first, then methods.

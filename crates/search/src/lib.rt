@@ -46,19 +46,19 @@ pub fn search(
     let mut depth: usize = 0;
     let mut applied: u64 = 0;
     let mut at = spots::start(words, &mut stack);
-    let mut row = spots::top_row(links, &stack, at.height, limit);
+    let mut next = spots::top_row(links, &stack, at.height, limit);
     loop {
-        let Some(index) = row else {
+        let Some(index) = next.row() else {
             if depth == 0 {
                 return Err(Reason::NoPlan.at(applied));
             }
             depth -= 1;
             at = spots::back(trail[depth], rows, &mut stack);
-            row = links.next(trail[depth].row);
+            next = links.next(trail[depth].row);
             continue;
         };
         let Some(after) = spots::try_row(at, index, &mut stack, rows) else {
-            row = links.next(index);
+            next = links.next(index);
             continue;
         };
         if applied == budget {
@@ -66,12 +66,12 @@ pub fn search(
         }
         applied += 1;
         let rest = limit - (depth + 1);
-        let first = spots::top_row(links, &stack, after.height, rest);
-        if first.is_some() {
+        next = spots::top_row(links, &stack, after.height, rest);
+        let down = next.row().is_some();
+        if down {
             trail[depth] = at.marked(index);
             depth += 1;
             at = after;
-            row = first;
             continue;
         }
         if after.is_complete(words) {
@@ -80,6 +80,6 @@ pub fn search(
             return Ok(Found { applied, count });
         }
         spots::put_back(at.height, index, rows, &mut stack);
-        row = links.next(index);
+        next = links.next(index);
     }
 }

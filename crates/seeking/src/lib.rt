@@ -38,8 +38,10 @@ fn search_in(
     let early = own_checks::limits_hold(limit, budget);
     opening::open(bound, form, early, table, Ok(()), &mut words)?;
     let words = Words { all: &words };
-    let found = finder::seek(words, bound, form, limit as usize, budget, text)?;
-    roomy(found, size)
+    match finder::seek(words, bound, form, limit as usize, budget, text) {
+        Ok(found) => roomy(found, size),
+        Err(refusal) => Err(refusal),
+    }
 }
 
 // The length of the plan's text and the operators applied, and nothing written.

@@ -7,11 +7,11 @@ ghost use Rattle.rules.specs.Searches.{complete};
 ghost use Rattle.words.specs.Words.{table_of};
 ghost use Rattle.rows.specs.Sizes.{stack_cells};
 ghost use Rattle.rows.specs.Rows.{row_at, RowsFit, RowOk};
-ghost use Rattle.links.specs.Links.{some_row};
+ghost use Rattle.links.specs.Links.{row_of, some_row};
 ghost use Rattle.spots.specs.Spots.{state_in, top_row, mark_of, Begins, Tries, Returned};
 
 use facts::Set;
-use links::Links;
+use links::{Links, NextRow};
 use rows::{Rows, row};
 use rules::limits;
 use trail::Mark;
@@ -61,24 +61,19 @@ pub fn start(words: Words, stack: &mut [u16; row::STACK]) -> Spot
 }
 
 // The first row of the task on top, where `rest` operators more are allowed.
-pub fn top_row(
-    links: &Links,
-    stack: &[u16; row::STACK],
-    height: usize,
-    rest: usize,
-) -> Option<usize>
+pub fn top_row(links: &Links, stack: &[u16; row::STACK], height: usize, rest: usize) -> NextRow
     requires { (length stack.now ≡ stack_cells) × (height ≤ most_bound) }
-    ensures { result ≡ some_row (top_row links.now stack.now height rest) }
+    ensures { row_of result ≡ some_row (top_row links.now stack.now height rest) }
 {
     if rest == 0 {
-        return None;
+        return NextRow::none();
     }
     if height == 0 {
-        return None;
+        return NextRow::none();
     }
     let task = stack[height - 1] as usize;
     if limits::MOST_TASKS as usize <= task {
-        return None;
+        return NextRow::none();
     }
     links.first(task)
 }

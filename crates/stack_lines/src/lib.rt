@@ -13,7 +13,7 @@ use template::Template;
 // Four writers, since each has its own words.
 
 // The top, where one task is left and it stays.
-pub fn top_stays<const B: usize, const N: usize>(t: &mut Template<B, N>, top: u64, stay: u64)
+pub fn top_stays(t: &mut Template<'_>, top: u64, stay: u64)
     requires { Room (top_stays top stay) t.old × (top ≤ most_facts) }
     ensures { Draws (top_stays top stay) t.old t.new }
 {
@@ -25,12 +25,7 @@ pub fn top_stays<const B: usize, const N: usize>(t: &mut Template<B, N>, top: u6
 }
 
 // The place of the task, where the same task is left there.
-pub fn task_stays<const B: usize, const N: usize>(
-    t: &mut Template<B, N>,
-    top: u64,
-    task: u64,
-    bottom: u64,
-)
+pub fn task_stays(t: &mut Template<'_>, top: u64, task: u64, bottom: u64)
     requires { Room (task_stays top task bottom) t.old × (top ≤ most_facts) × ThreeDigits task }
     ensures { Draws (task_stays top task bottom) t.old t.new }
 {
@@ -42,7 +37,7 @@ pub fn task_stays<const B: usize, const N: usize>(
 }
 
 // The top, where it moves: none is left, or more than one.
-pub fn top_moves<const B: usize, const N: usize>(t: &mut Template<B, N>, top: u64, stay: u64)
+pub fn top_moves(t: &mut Template<'_>, top: u64, stay: u64)
     requires { Room (top_moves top stay) t.old × (top ≤ most_facts) × (stay ≤ most_subtasks) }
     ensures { Draws (top_moves top stay) t.old t.new }
 {
@@ -55,12 +50,7 @@ pub fn top_moves<const B: usize, const N: usize>(t: &mut Template<B, N>, top: u6
 }
 
 // The place of the task, where another is left there, or none.
-pub fn task_moves<const B: usize, const N: usize>(
-    t: &mut Template<B, N>,
-    top: u64,
-    task: u64,
-    bottom: u64,
-)
+pub fn task_moves(t: &mut Template<'_>, top: u64, task: u64, bottom: u64)
     requires { Room (task_moves top task bottom) t.old × (top ≤ most_facts) × ThreeDigits task × ThreeDigits bottom }
     ensures { Draws (task_moves top task bottom) t.old t.new }
 {
@@ -73,7 +63,7 @@ pub fn task_moves<const B: usize, const N: usize>(
 }
 
 // A task that is left, j + 1 places above.
-fn push<const B: usize, const N: usize>(t: &mut Template<B, N>, top: u64, j: usize, task: u64)
+fn push(t: &mut Template<'_>, top: u64, j: usize, task: u64)
     requires { Room (push_one top j task) t.old × (top ≤ most_facts) × (j < most_subtasks) × ThreeDigits task }
     ensures { Draws (push_one top j task) t.old t.new }
 {
@@ -82,7 +72,7 @@ fn push<const B: usize, const N: usize>(t: &mut Template<B, N>, top: u64, j: usi
 }
 
 // The places above: the tasks that the row leaves there, but the last.
-pub fn pushes<const B: usize, const N: usize>(t: &mut Template<B, N>, top: u64, rows: Rows)
+pub fn pushes(t: &mut Template<'_>, top: u64, rows: Rows)
     requires { Room (above top rows.ops.now rows.cells.now) t.old × (top ≤ most_facts) × Left rows.ops.now rows.cells.now }
     ensures { Draws (above top rows.entry.ops.now rows.entry.cells.now) t.old t.new }
 {

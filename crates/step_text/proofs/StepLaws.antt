@@ -13,7 +13,9 @@ use Rattle.laws.specs.Steps.{step_at, step_text}
 use Rattle.laws.proofs.TextLaws.{upto_same}
 use Rattle.laws.proofs.StepSizes.{positions_low}
 use Rattle.template.specs.declared.memory.Template.{Template}
+use Rattle.template.specs.declared.view.Drawn.{Drawn}
 use Rattle.template.specs.Templates.{rendered}
+use Rattle.template.specs.Views.{shown}
 use Rattle.rows.specs.Sizes.{row_words, row_cells}
 use Rattle.rows.specs.Rows.{Row, row_at, row_of}
 use Rattle.compose.specs.RowTexts.{Fit, row_text}
@@ -46,12 +48,12 @@ module _ (b f : ℕ) (t : Table) (i : ℕ) (ops cells : List ℕ) (e : row_at op
   pub step_composed : (p : ℕ) → row_text_at t i (row_at ops cells 0) p ≡ operator_text_at f t i p
   step_composed p = row_text_lem b f t (step_at t i) ops cells p e
 
-module _ {B N b f : ℕ} {t : Table} {i : ℕ} (s : Template B N) {n : ℕ} (c : IsComposed b f t i s n) where
+module _ {b f : ℕ} {t : Table} {i : ℕ} (s : Template) {n : ℕ} (c : IsComposed b f t i s n) where
   pub step_few : Valid t → i < action_count t + method_count t → n ≤ b
   step_few v l = omega (arith, c.count, positions_low f t v i l b)
 
-  pub step_drawn : step_text b f t i ≡ upto (rendered s) n
+  pub step_drawn : (d : Drawn) → ((p : ℕ) → shown d p ≡ rendered s p) → step_text b f t i ≡ upto (shown d) n
   unfolding step_text
-  step_drawn =
+  step_drawn d e =
       ap (upto (operator_text_at f t i)) (sym c.count)
-      ∙ upto_same (operator_text_at f t i) (rendered s) n (λ p l. sym (c.text p))
+      ∙ upto_same (operator_text_at f t i) (shown d) n (λ p l. sym (e p ∙ c.text p))

@@ -7,7 +7,7 @@ use Rattle.rules.specs.Problems.{no_task, name_of}
 use Rattle.laws.specs.Steps.{step_at, operator_text}
 use Rattle.template.specs.Sizes.{operator_bytes}
 use Rattle.template.specs.declared.memory.Template.{Template}
-use Rattle.template.specs.Templates.{rendered}
+use Rattle.template.specs.Templates.{Stands, rendered}
 use Rattle.rows.specs.Rows.{Row}
 use Rattle.compose.specs.RowTexts.{row_text}
 use Rattle.step_text.specs.declared.Label.{Label}
@@ -25,7 +25,8 @@ abbrev pub operator_text_at : ℕ → Table → ℕ → ℕ → List ℕ
 operator_text_at f t i p = operator_text f t (record { what = step_at t i; at = suc p })
 
 -- The template says the operator of step i at each position; it exists at so many.
-pub record IsComposed {B N : ℕ} (b f : ℕ) (t : Table) (i : ℕ) (s : Template B N) (n : ℕ) : Type 0 where
+pub record IsComposed (b f : ℕ) (t : Table) (i : ℕ) (s : Template) (n : ℕ) : Type 0 where
+  pub stands : Stands s
   pub text : (p : ℕ) → rendered s p ≡ operator_text_at f t i p
   pub most : s.at + 3 * s.count ≤ operator_bytes
   pub count : n ≡ positions b f t (step_at t i)

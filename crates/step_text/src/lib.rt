@@ -9,13 +9,13 @@ ghost use Rattle.words.specs.Words.{table_of};
 ghost use Rattle.text.specs.Appends.{Appends};
 ghost use Rattle.template.specs.Sizes.{margin, most_numbers, figure_count, operator_bytes, template_bytes, step_text_bytes};
 ghost use Rattle.template.specs.Figures.{Figures};
-ghost use Rattle.template.specs.Templates.{rendered};
+ghost use Rattle.template.specs.Templates.{Stands, Keeps, rendered};
 ghost use Rattle.rows.specs.Rows.{row_at};
 ghost use Rattle.compose.specs.RowTexts.{Fit};
 ghost use Rattle.step_text.specs.Operators.{Names, row_text_at, IsComposed};
 
 use rows::{Rows, row};
-use template::{MOST_NUMBERS, TEMPLATE_BYTES, Template};
+use template::{MOST_NUMBERS, NO_NUMBER, TEMPLATE_BYTES, Template};
 use words::Words;
 
 // The letter and the number of a step's name, as compose::compose takes them.
@@ -43,16 +43,13 @@ fn label_of(words: Words, i: usize) -> Label
 }
 
 // The template of the operators of step i, from its row.
-fn compose_row<const B: usize, const N: usize>(
-    t: &mut Template<B, N>,
-    words: Words,
-    i: usize,
-    rows: Rows,
-)
+fn compose_row(t: &mut Template<'_>, words: Words, i: usize, rows: Rows)
     requires held { Fit (fact_count (table_of words.all.now)) (task_count (table_of words.all.now)) i rows.ops.now rows.cells.now }
-    requires room { (template_bytes ≤ B) × (most_numbers ≤ N) }
+    requires room { (template_bytes ≤ length t.old.text.now) × (most_numbers ≤ length t.old.numbers.now) }
+    ensures stands { Stands t.new }
     ensures text { (p : ℕ) → rendered t.new p ≡ row_text_at (table_of words.entry.all.now) i (row_at rows.entry.ops.now rows.entry.cells.now 0) p }
     ensures upper_bound { t.new.at + 3 * t.new.count ≤ operator_bytes }
+    ensures memory { Keeps t.old t.new }
 {
     let top = words.fact_count();
     let free = words.task_count();
@@ -61,16 +58,11 @@ fn compose_row<const B: usize, const N: usize>(
 }
 
 // The template of the operators of step i; at how many positions it has one.
-pub fn compose_step<const B: usize, const N: usize>(
-    t: &mut Template<B, N>,
-    words: Words,
-    bound: u64,
-    form: u64,
-    i: usize,
-) -> usize
+pub fn compose_step(t: &mut Template<'_>, words: Words, bound: u64, form: u64, i: usize) -> usize
     requires held { (bound ≤ most_bound) × (i < action_count (table_of words.all.now) + method_count (table_of words.all.now)) }
-    requires room { (template_bytes ≤ B) × (most_numbers ≤ N) }
-    ensures { IsComposed bound form (table_of words.entry.all.now) i t.new result }
+    requires room { (template_bytes ≤ length t.old.text.now) × (most_numbers ≤ length t.old.numbers.now) }
+    ensures composed { IsComposed bound form (table_of words.entry.all.now) i t.new result }
+    ensures memory { Keeps t.old t.new }
 {
     let mut ops = [0u64; row::WORDS];
     let mut cells = [0u16; row::CELLS];
@@ -98,7 +90,9 @@ pub fn put_operators(
     ensures appends { Appends out.old at (step_text bound form (table_of words.entry.all.now) i) out.new result }
     ensures upper_bound { result ≤ at + step_text_bytes }
 {
-    let mut template = Template::<TEMPLATE_BYTES, MOST_NUMBERS>::blank();
+    let mut text = [0u8; TEMPLATE_BYTES];
+    let mut numbers = [NO_NUMBER; MOST_NUMBERS];
+    let mut template = Template::over(&mut text, &mut numbers);
     let count = compose_step(&mut template, words, bound, form, i);
-    template.put_positions(out, at, figures, count)
+    template.drawn().put_positions(out, at, figures, count)
 }

@@ -1,24 +1,24 @@
 // Text that is composed once and rendered at each position. Writers here move a chunk of bytes at a time, so they may also
-// change as many bytes after what they write; `Template::put_exactly` alone changes none.
+// change as many bytes after what they write; `Drawn::put_exactly` alone changes none.
 #![tactic(auto)]
 
-ghost use Rattle.std.specs.Prelude.{◌≡◌, [], ◌∷◌, ◌++◌, ℕ, ◌+◌, ◌*◌, ◌-◌, ◌^◌, ◌≤◌, ◌<◌, length, take, drop};
-ghost use Rattle.basics.specs.Lists.{upto};
+ghost use Rattle.std.specs.Prelude.{◌≡◌, [], ◌∷◌, ◌++◌, ℕ, ◌+◌, ◌*◌, ◌-◌, ◌≤◌, ◌<◌, length, take, drop};
 ghost use Rattle.basics.specs.Texts.{digits, ThreeDigits};
-ghost use Rattle.rules.specs.Limits.{most_bound};
 ghost use Rattle.text.specs.Appends.{Appends};
-ghost use Rattle.text.specs.Puts.{Puts, farthest};
-ghost use Rattle.template.specs.Sizes.{chunk, margin, most_offset, figure_count, figure_bytes, operator_bytes};
+ghost use Rattle.template.specs.Sizes.{chunk, most_offset, figure_count, figure_bytes};
 ghost use Rattle.template.specs.Figures.{Figures, figure};
-ghost use Rattle.template.specs.Templates.{Blank, rendered};
+ghost use Rattle.template.specs.Templates.{Blank, Stands, Keeps, rendered};
+ghost use Rattle.template.specs.Views.{shown};
 
 use rules::limits::MOST_BOUND;
 
 mod memory;
 mod numbers;
+mod view;
 
 pub use memory::Template;
-pub use numbers::Number;
+pub use numbers::{NO_NUMBER, Number};
+pub use view::Drawn;
 
 // Sizes, with the names that specs/Sizes has for them; and how far a move goes before the next one, which overlaps it.
 pub const CHUNK: usize = 32;
@@ -128,26 +128,26 @@ pub fn fill_figures(figures: &mut [u8])
     }
 }
 
-impl<const BYTES: usize, const NUMBERS: usize> Template<BYTES, NUMBERS> {
-    pub fn blank() -> Self
-        requires { BYTES + 16 * NUMBERS + 32 ≤ 2 ^ 63 }
-        ensures { Blank result }
+impl<'a> Template<'a> {
+    // Nothing is drawn yet, in memory that is lent for it.
+    pub fn over(text: &'a mut [u8], numbers: &'a mut [Number]) -> Template<'a>
+        ensures blank { Blank result }
+        ensures text { (result.text.ghost_name ≡ text.entry.ghost_name) × (result.text.now ≡ text.old) }
+        ensures numbers { (result.numbers.ghost_name ≡ numbers.entry.ghost_name) × (result.numbers.now ≡ numbers.old) }
     {
         Template {
-            text: [0; BYTES],
-            numbers: [Number {
-                bytes: 0,
-                offset: 0,
-            }; NUMBERS],
             at: 0,
             from: 0,
             count: 0,
+            text,
+            numbers,
         }
     }
 
     // Begins anew, whatever was drawn.
     pub fn clear(&mut self)
-        ensures { Blank self.new }
+        ensures blank { Blank self.new }
+        ensures memory { Keeps self.old self.new × (self.new.text.now ≡ self.old.text.now) × (self.new.numbers.now ≡ self.old.numbers.now) }
     {
         self.at = 0;
         self.from = 0;
@@ -156,9 +156,11 @@ impl<const BYTES: usize, const NUMBERS: usize> Template<BYTES, NUMBERS> {
 
     // The segment ends here, and the position plus o stands after it.
     pub fn number(&mut self, o: usize)
-        requires { (self.old.count < NUMBERS) × (o ≤ most_offset) }
-        ensures text { (p : ℕ) → rendered self.new p ≡ rendered self.old p ++ digits (p + o) }
+        requires { (self.old.count < length self.old.numbers.now) × (o ≤ most_offset) }
+        ensures stands { Stands self.old → Stands self.new }
+        ensures text { Stands self.old → (p : ℕ) → rendered self.new p ≡ rendered self.old p ++ digits (p + o) }
         ensures at_value { (self.new.at ≡ self.old.at) × (self.new.from ≡ self.old.at) × (self.new.count ≡ self.old.count + 1) }
+        ensures memory { Keeps self.old self.new × (self.new.text.now ≡ self.old.text.now) }
     {
         let j = self.count;
         self.numbers[j] = Number {
@@ -169,55 +171,19 @@ impl<const BYTES: usize, const NUMBERS: usize> Template<BYTES, NUMBERS> {
         self.count = j + 1;
     }
 
-    // The template's text at the position p, byte by byte: nothing after it changes.
-    pub fn put_exactly(&self, out: &mut [u8], at: usize, p: usize) -> usize
-        requires { (p < most_bound) × (at + self.now.at + 3 * self.now.count ≤ farthest) }
-        ensures { Puts out.old at (rendered self.now p) out.new result }
+    // What is drawn, to be rendered.
+    pub fn drawn(&self) -> Drawn<'_>
+        requires { Stands self.now }
+        ensures text { (p : ℕ) → shown result p ≡ rendered self.now p }
+        ensures lent { (result.text.now ≡ self.now.text.now) × (result.numbers.now ≡ self.now.numbers.now) }
+        ensures places { (result.at ≡ self.now.at) × (result.from ≡ self.now.from) × (result.count ≡ self.now.count) }
     {
-        let text = &self.text[..];
-        let mut next = at;
-        let mut from = 0;
-        for j in 0..self.count {
-            let number = self.numbers[j];
-            let end = from + number.bytes;
-            let v = (p + number.offset) as u64;
-            next = text::put_field(out, next, &text[from..end], v);
-            from = end;
+        Drawn {
+            text: self.text,
+            numbers: self.numbers,
+            at: self.at,
+            from: self.from,
+            count: self.count,
         }
-        let end = self.at;
-        text::put(out, next, &text[from..end])
-    }
-
-    // The template's text at the position p.
-    fn put_rendered(&self, out: &mut [u8], at: usize, figures: &[u8], p: usize) -> usize
-        requires stands { (self.now.at + margin ≤ BYTES) × (p < most_bound) × Figures figures.now figure_count }
-        requires margin_in_bounds { at + self.now.at + 3 * self.now.count + margin ≤ length out.old }
-        ensures appends { Appends out.old at (rendered self.now p) out.new result }
-        ensures upper_bound { result ≤ at + self.now.at + 3 * self.now.count }
-    {
-        let mut next = at;
-        let mut from = 0;
-        for j in 0..self.count {
-            let n = self.numbers[j].bytes;
-            let end = put_part(out, next, &self.text, from, n);
-            let v = p + self.numbers[j].offset;
-            next = put_figure(out, end, figures, v);
-            from += n;
-        }
-        put_part(out, next, &self.text, from, self.at - from)
-    }
-
-    // The template's text at the positions 0, 1, .. n - 1, one after the other.
-    pub fn put_positions(&self, out: &mut [u8], at: usize, figures: &[u8], n: usize) -> usize
-        requires stands { (self.now.at + margin ≤ BYTES) × Figures figures.now figure_count }
-        requires count_bound { (self.now.at + 3 * self.now.count ≤ operator_bytes) × (n ≤ most_bound) × (at + operator_bytes * n + margin ≤ length out.old) }
-        ensures appends { Appends out.old at (upto (rendered self.now) n) out.new result }
-        ensures upper_bound { result ≤ at + operator_bytes * n }
-    {
-        let mut next = at;
-        for p in 0..n {
-            next = self.put_rendered(out, next, figures, p);
-        }
-        next
     }
 }

@@ -4,3 +4,9 @@ pub struct Number {
     pub bytes: usize,
     pub offset: usize,
 }
+
+// What stands where no number was drawn yet.
+pub const NO_NUMBER: Number = Number {
+    bytes: 0,
+    offset: 0,
+};

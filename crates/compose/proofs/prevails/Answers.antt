@@ -13,11 +13,11 @@ use Rattle.drawing.proofs.DrawLaws.{◌▹◌, draws_is}
 use Rattle.compose.proofs.prevails.Goals as goal
 
 pub returns : goal.returns
-returns g c =
+returns c =
     let a = c.args in
     let s = c.args.stack in
     let facts : Draws (fact_lines (prevail_count (ones (without (set_of a.needs) (set_of a.dels))) s.stay s.task s.bottom) (hold_text s.top (without (set_of a.needs) (set_of a.dels))) (hold_bytes * most_facts)) _ _ =
     draws_is (omega arith) (omega arith)
     (λ p. facts_as (c.prevail_count-n.ensures.value ∙ ap (λ (x : ℕ). prevail_count (ones x) s.stay s.task s.bottom) c.kept-set.ensures) (ap (hold_text s.top) c.kept-set.ensures))
-    c.fact_lines.ensures in
+    c.fact_lines.ensures.draws in
     facts ▹ c.top_stays.ensures ▹ c.task_stays.ensures

@@ -4,5 +4,5 @@ use Rattle.compose.proofs.GroupLaws.{name_words}
 use Rattle.compose.proofs.put_name.Goals as goal
 
 pub returns : goal.returns
-returns g c =
-    draws_is (omega arith) (omega arith) (name_words c.args.letter c.args.k) (c.write.ensures ▹ c.field.ensures ▹ c.moving_line.ensures)
+returns c =
+    draws_is (omega arith) (omega arith) (name_words c.args.letter c.args.k) (c.write.ensures.draws ▹ c.field.ensures.draws ▹ c.moving_line.ensures)

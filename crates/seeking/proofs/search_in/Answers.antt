@@ -31,31 +31,31 @@ seek-requires c =
     let held = limits_passed a.limit a.budget c.limits_hold-early.ensures usable.first in
     (usable.low, usable.high, held.1, held.2)
 
-pub returns-in_err-found-clause-result_value : goal.returns-in_err-found-clause-result_value
-returns-in_err-found-clause-result_value c =
+pub returns-in-Err-clause-result_value : goal.returns-in-Err-clause-result_value
+returns-in-Err-clause-result_value c =
     let a = c.args in
     let sought = sought_in a.bound a.form (table_of c.«open».new.words) a.limit a.budget in
     let q = searches a.limit a.budget c.limits_hold-early.ensures a.bound a.form a.table.now c.«open».ensures c.in_ok-open.was a.size in
-    let z = ap figures q ∙ sym (figures_room a.size sought) ∙ ap (λ (x : Answer Figures). after x (room_for_figures a.size)) (via found_of c.seek.ensures.result_value c.in_err-found.was) in
+    let z = ap figures q ∙ sym (figures_room a.size sought) ∙ ap (λ (x : Answer Figures). after x (room_for_figures a.size)) (via found_of c.seek.ensures.result_value c.in-Err.is) in
     search (rules, z)
 
-pub returns-in_err-found-clause-text_after : goal.returns-in_err-found-clause-text_after
-returns-in_err-found-clause-text_after c =
+pub returns-in-Err-clause-text_after : goal.returns-in-Err-clause-text_after
+returns-in-Err-clause-text_after c =
     let a = c.args in
     let old = a.text.now in
     let q = searches a.limit a.budget c.limits_hold-early.ensures a.bound a.form a.table.now c.«open».ensures c.in_ok-open.was (length old) in
     c.seek.ensures.text_after ∙ sym (ap (λ (x : Answer Sought). written old 0 (text_found x)) q)
 
-pub returns-clause-result_value : goal.returns-clause-result_value
-returns-clause-result_value c =
+pub returns-in-Ok-clause-result_value : goal.returns-in-Ok-clause-result_value
+returns-in-Ok-clause-result_value c =
     let a = c.args in
     let sought = sought_in a.bound a.form (table_of c.«open».new.words) a.limit a.budget in
     let q = searches a.limit a.budget c.limits_hold-early.ensures a.bound a.form a.table.now c.«open».ensures c.in_ok-open.was a.size in
     c.roomy.ensures
-    ∙ sym (ap figures q ∙ sym (figures_room a.size sought) ∙ ap (λ (x : Answer Figures). after x (room_for_figures a.size)) (sym c.in_ok-found.ensures.result_value))
+    ∙ sym (ap figures q ∙ sym (figures_room a.size sought) ∙ ap (λ (x : Answer Figures). after x (room_for_figures a.size)) (sym c.in-Ok.ensures.result_value))
 
-pub returns-clause-text_after : goal.returns-clause-text_after
-returns-clause-text_after c =
+pub returns-in-Ok-clause-text_after : goal.returns-in-Ok-clause-text_after
+returns-in-Ok-clause-text_after c =
     let a = c.args in
     let old = a.text.now in
     let q = searches a.limit a.budget c.limits_hold-early.ensures a.bound a.form a.table.now c.«open».ensures c.in_ok-open.was (length old) in

@@ -11,25 +11,22 @@ use Rattle.stack_lines.proofs.pushes.Goals as goal
 
 pub loop-h-init : goal.loop-h-init
 unfolding upto
-loop-h-init g c = (draws_none (λ p. refl), omega arith)
+loop-h-init c = (draws_none (λ p. refl), omega arith)
 
 pub push-requires : goal.push-requires
-push-requires g c =
+push-requires c =
     let l = c.loop-h in
     let rest = (row_at c.args.rows.ops.now c.args.rows.cells.now 0).rest in
     let more : l.h < length rest = omega (arith, c.left-stay.ensures, c.loop-h-test) in
     let few = c.requires.2.held.few in (
-      omega (arith, l.t.small),
-      (
-        room_after c.requires.0 l.invariant.0 (omega (arith, more, few, l.auto.h)) (omega (arith, more, l.auto.h)),
-        c.requires.1,
-        omega (arith, more, few),
-        omega (arith, c.left_at-task.ensures, c.requires.2.low (length rest - 1 - l.h) (omega (arith, more))),
-      ),
+      room_after c.requires.0 l.invariant.0 (omega (arith, more, few, l.auto.h)) (omega (arith, more, l.auto.h)),
+      c.requires.1,
+      omega (arith, more, few),
+      omega (arith, c.left_at-task.ensures, c.requires.2.low (length rest - 1 - l.h) (omega (arith, more))),
     )
 
 pub loop-h-preserved : goal.loop-h-preserved
-loop-h-preserved g c =
+loop-h-preserved c =
     let l = c.loop-h in
     let a = c.args in
     let rest = (row_at a.rows.ops.now a.rows.cells.now 0).rest in (
@@ -38,7 +35,7 @@ loop-h-preserved g c =
     )
 
 pub returns : goal.returns
-returns g c =
+returns c =
     let l = c.loop-h in
     let rest = (row_at c.args.rows.ops.now c.args.rows.cells.now 0).rest in
     let e : l.h - 1 ≡ length rest - 1 = omega (arith, c.left-stay.ensures, l.invariant.1, l.auto.h, c.loop-h-test) in

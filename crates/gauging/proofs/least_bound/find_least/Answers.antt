@@ -5,10 +5,10 @@ use Rattle.rules.specs.Refusals.{table_read, form_read, find_least}
 use Rattle.opening.proofs.OpeningLaws.{goes_on}
 use Rattle.gauging.proofs.least_bound.find_least.Goals as goal
 
-pub returns-in_err-open_formed : goal.returns-in_err-open_formed
+pub returns-in-Err : goal.returns-in-Err
 unfolding find_least form_read table_read
-returns-in_err-open_formed c = search (rules, goes_on c.open_formed.ensures c.in_err-open_formed.was)
+returns-in-Err c = search (rules, goes_on c.open_formed.ensures c.in-Err.is)
 
-pub returns : goal.returns
+pub returns-in-Ok : goal.returns-in-Ok
 unfolding find_least form_read table_read
-returns c = ap answer c.least.ensures ∙ sym (goes_on c.open_formed.ensures c.in_ok-open_formed.was _)
+returns-in-Ok c = ap answer c.least.ensures ∙ sym (goes_on c.open_formed.ensures c.in-Ok.is _)
