@@ -52,8 +52,12 @@ module _ {b f : ℕ} {t : Table} {i : ℕ} (s : Template) {n : ℕ} (c : IsCompo
   pub step_few : Valid t → i < action_count t + method_count t → n ≤ b
   step_few v l = omega (arith, c.count, positions_low f t v i l b)
 
-  pub step_drawn : (d : Drawn) → ((p : ℕ) → shown d p ≡ rendered s p) → step_text b f t i ≡ upto (shown d) n
+  pub step_drawn : step_text b f t i ≡ upto (rendered s) n
   unfolding step_text
-  step_drawn d e =
+  step_drawn =
       ap (upto (operator_text_at f t i)) (sym c.count)
-      ∙ upto_same (operator_text_at f t i) (shown d) n (λ p l. sym (e p ∙ c.text p))
+      ∙ upto_same (operator_text_at f t i) (rendered s) n (λ p l. sym (c.text p))
+
+  -- The same of a view of it.
+  pub step_shown : (d : Drawn) → ((p : ℕ) → shown d p ≡ rendered s p) → step_text b f t i ≡ upto (shown d) n
+  step_shown d e = step_drawn ∙ upto_same (rendered s) (shown d) n (λ p l. sym (e p))

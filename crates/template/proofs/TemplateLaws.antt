@@ -101,11 +101,11 @@ module _ (numbers : List Number) (i : ℕ) (n : Number) where
   other : (j : ℕ) → j < i → number_at (set numbers i n) j ≡ number_at numbers j
   other j h = get_or-set_other numbers i j n no_number (λ e. omega arith)
 
-  start_set : (j : ℕ) → j ≤ i → start_of (set numbers i n) j ≡ start_of numbers j
+  pub start_set : (j : ℕ) → j ≤ i → start_of (set numbers i n) j ≡ start_of numbers j
   start_set j h =
       sum_same (λ k. (number_at (set numbers i n) k).bytes) (λ k. (number_at numbers k).bytes) j (λ k q. ap (λ (x : Number). x.bytes) (other k (omega arith)))
 
-  here : i < length numbers → number_at (set numbers i n) i ≡ n
+  pub here : i < length numbers → number_at (set numbers i n) i ≡ n
   here h = get_or-set_same numbers i n no_number h
 
   turn_before : (text : List ℕ) (p j : ℕ) → j < i → turn text (set numbers i n) p j ≡ turn text numbers p j
@@ -120,19 +120,19 @@ module _ (numbers : List Number) (i : ℕ) (n : Number) where
       (λ k. take (here h k).bytes (drop (start_set i (le_refl i) k) text) ++ digits (p + (here h k).offset))
 
   -- One segment more, and the number after it.
-  upto_set : (text : List ℕ) (p : ℕ) → i < length numbers
+  pub upto_set : (text : List ℕ) (p : ℕ) → i < length numbers
       → upto (turn text (set numbers i n) p) (i + 1) ≡ upto (turn text numbers p) i ++ (take n.bytes (drop (start_of numbers i) text) ++ digits (p + n.offset))
   upto_set text p h =
       upto_more (turn text (set numbers i n) p) i
       ∙ ap₂ (λ (x y : List ℕ). x ++ y) (upto_same (turn text (set numbers i n) p) (turn text numbers p) i (turn_before text p)) (turn_here text p h)
 
 -- The last segment begins after the number.
-begins_after : (t : Template) (n : Number) → Stands t → t.count < length t.numbers.now → n.bytes ≡ t.at - t.from
+pub begins_after : (t : Template) (n : Number) → Stands t → t.count < length t.numbers.now → n.bytes ≡ t.at - t.from
     → t.at ≡ start_of (set t.numbers.now t.count n) (t.count + 1)
 begins_after t n s h e =
     omega (arith, sum_more (λ i. (number_at (set t.numbers.now t.count n) i).bytes) t.count, start_set t.numbers.now t.count n t.count (le_refl t.count), ap (λ (x : Number). x.bytes) (here t.numbers.now t.count n h), e, s.begins, t.reach)
 
-low_after : (t : Template) (n : Number) → Stands t → t.count < length t.numbers.now → n.offset ≤ most_offset
+pub low_after : (t : Template) (n : Number) → Stands t → t.count < length t.numbers.now → n.offset ≤ most_offset
     → (j : ℕ) → j < t.count + 1 → (number_at (set t.numbers.now t.count n) j).offset ≤ most_offset
 low_after t n s h low j l =
     elim (dec_lt j t.count) [

@@ -1,6 +1,6 @@
 use native.Mathlib.Omega.{arith}
 use Rattle.text.proofs.AppendLaws.{appends_is}
-use Rattle.step_text.proofs.StepLaws.{step_few, step_drawn}
+use Rattle.step_text.proofs.StepLaws.{step_few, step_shown}
 use Rattle.step_text.proofs.put_operators.Goals as goal
 
 pub put_positions-requires-clause-count_bound : goal.put_positions-requires-clause-count_bound
@@ -14,4 +14,4 @@ returns c =
     let d = c.compose_step-count.ensures.composed in
     let few = step_few _ d c.args.words.held.valid c.requires.held.1 in
     let put = c.put_positions.ensures in
-    record { appends = appends_is (step_drawn _ d _ c.drawn.ensures.text) put.appends; upper_bound = omega (arith, few, c.requires.held.0, put.upper_bound) }
+    record { appends = appends_is (step_shown _ d _ c.drawn.ensures.text) put.appends; upper_bound = omega (arith, few, c.requires.held.0, put.upper_bound) }
