@@ -52,6 +52,7 @@ module _ {b f : ℕ} {t : Table} {i : ℕ} (s : Template) {n : ℕ} (c : IsCompo
   pub step_few : Valid t → i < action_count t + method_count t → n ≤ b
   step_few v l = omega (arith, c.count, positions_low f t v i l b)
 
+  -- The texts of the template at its positions are the step's operators.
   pub step_drawn : step_text b f t i ≡ upto (rendered s) n
   unfolding step_text
   step_drawn =

@@ -101,10 +101,12 @@ module _ (numbers : List Number) (i : ℕ) (n : Number) where
   other : (j : ℕ) → j < i → number_at (set numbers i n) j ≡ number_at numbers j
   other j h = get_or-set_other numbers i j n no_number (λ e. omega arith)
 
+  -- The segments up to the number that is set begin where they did.
   pub start_set : (j : ℕ) → j ≤ i → start_of (set numbers i n) j ≡ start_of numbers j
   start_set j h =
       sum_same (λ k. (number_at (set numbers i n) k).bytes) (λ k. (number_at numbers k).bytes) j (λ k q. ap (λ (x : Number). x.bytes) (other k (omega arith)))
 
+  -- In its place stands the number that is set.
   pub here : i < length numbers → number_at (set numbers i n) i ≡ n
   here h = get_or-set_same numbers i n no_number h
 
@@ -132,6 +134,7 @@ pub begins_after : (t : Template) (n : Number) → Stands t → t.count < length
 begins_after t n s h e =
     omega (arith, sum_more (λ i. (number_at (set t.numbers.now t.count n) i).bytes) t.count, start_set t.numbers.now t.count n t.count (le_refl t.count), ap (λ (x : Number). x.bytes) (here t.numbers.now t.count n h), e, s.begins, t.reach)
 
+-- Each number is low enough to have a figure, the new one too.
 pub low_after : (t : Template) (n : Number) → Stands t → t.count < length t.numbers.now → n.offset ≤ most_offset
     → (j : ℕ) → j < t.count + 1 → (number_at (set t.numbers.now t.count n) j).offset ≤ most_offset
 low_after t n s h low j l =
